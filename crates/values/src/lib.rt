@@ -1,0 +1,6 @@
+//! Small types that contracts see as lists.
+#![tactic(auto)]
+
+mod text;
+
+pub use text::{Bytes, Text};
