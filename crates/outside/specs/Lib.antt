@@ -1,0 +1,14 @@
+pub mod Causes
+pub mod Etag
+pub mod FileMap
+pub mod FileMapEmpty
+pub mod Files
+pub mod FolderCalls
+pub mod MemFolder
+pub mod Places
+pub mod Plans
+pub mod Runs
+pub mod Shelf
+pub mod Slots
+pub mod StreamCalls
+pub mod Subfolders

@@ -1,0 +1,245 @@
+//! The calls of the file system that a real folder is made of.
+
+use crate::etag::etag_of;
+use crate::folder::{Change, Expect, FileEntry, NoMemory};
+use std::fs::{File, Files, OpenFile, OpenOptions};
+use std::io::{ErrorKind, Read, Write};
+use std::{fs, io};
+use values::Text;
+
+/// What stands under a path. A link counts as what it leads to.
+#[derive(Clone, Copy, PartialEq, Eq)]
+enum Kind {
+    File,
+    Folder,
+    /// Nothing, a link that leads nowhere, or something else, as a pipe.
+    Other,
+}
+
+/// The error that says that nothing stands under a path.
+fn is_absent(error: &io::Error) -> bool {
+    match error.kind() {
+        ErrorKind::NotFound => true,
+        ErrorKind::NotADirectory => true,
+        ErrorKind::FilesystemLoop => true,
+        _ => false,
+    }
+}
+
+fn kind_of<R: Files>(rt: &R, path: &str) -> io::Result<Kind> {
+    match fs::metadata(rt, path) {
+        Ok(found) if found.is_file() => Ok(Kind::File),
+        Ok(found) if found.is_dir() => Ok(Kind::Folder),
+        Ok(_) => Ok(Kind::Other),
+        Err(error) if is_absent(&error) => Ok(Kind::Other),
+        Err(error) => Err(error),
+    }
+}
+
+fn path_of<R: AllocGlobal>(rt: &R, folder: &str, name: &str) -> io::Result<String> {
+    Ok(format!(in rt.alloc(); "{folder}/{name}")?)
+}
+
+/// The names in a folder that end so, in byte order. `None` where the folder isn't there.
+fn listed<R: Files + AllocGlobal + Clone + Drop>(
+    rt: &R,
+    folder: &str,
+    ending: &str,
+) -> io::Result<Option<Vec<String>>> {
+    let entries = match fs::read_dir(rt, folder) {
+        Ok(entries) => entries,
+        Err(error) if is_absent(&error) => return Ok(None),
+        Err(error) => return Err(error),
+    };
+    let mut names = Vec::new(rt.alloc());
+    for entry in entries {
+        let entry = entry?;
+        if entry.file_name().ends_with(ending) {
+            names.push(String::from_str(rt.alloc(), entry.file_name())?)?;
+        }
+    }
+    names.sort_unstable();
+    Ok(Some(names))
+}
+
+/// The bytes of a file, but no more than one above the limit. `None` where no file is there.
+fn read_path<R: Files + AllocGlobal>(
+    rt: &R,
+    path: &str,
+    limit: u64,
+) -> io::Result<Option<Vec<u8>>> {
+    if kind_of(rt, path)? != Kind::File {
+        return Ok(None);
+    }
+    let file = match File::open(rt, path) {
+        Ok(file) => file,
+        Err(error) if is_absent(&error) => return Ok(None),
+        Err(error) => return Err(error),
+    };
+    let mut bytes = Vec::new(rt.alloc());
+    file.take(limit.saturating_add(1)).read_to_end(&mut bytes)?;
+    Ok(Some(bytes))
+}
+
+/// The etag of some bytes, with want of memory as the system says it.
+fn etag<R: AllocGlobal>(rt: &R, bytes: &[u8]) -> io::Result<Text> {
+    match etag_of(rt.alloc(), bytes) {
+        Ok(etag) => Ok(etag),
+        Err(NoMemory) => Err(io::Error::from(ErrorKind::OutOfMemory)),
+    }
+}
+
+/// The etag of a file. `None` where no file is there.
+fn etag_at<R: Files + AllocGlobal>(rt: &R, path: &str) -> io::Result<Option<Text>> {
+    match read_path(rt, path, u64::MAX)? {
+        None => Ok(None),
+        Some(bytes) => Ok(Some(etag(rt, bytes.as_slice())?)),
+    }
+}
+
+/// The files whose name ends so, in byte order of names. A file that is gone when it is read is left out.
+pub fn entries<R: Files + AllocGlobal + Clone + Drop>(
+    rt: &R,
+    folder: &str,
+    ending: &str,
+) -> io::Result<Option<Vec<FileEntry>>> {
+    let Some(names) = listed(rt, folder, ending)? else {
+        return Ok(None);
+    };
+    let mut entries = Vec::new(rt.alloc());
+    for name in names {
+        let path = path_of(rt, folder, name.as_str())?;
+        if let Some(etag) = etag_at(rt, path.as_str())? {
+            let name = Text::of(name);
+            entries.push(FileEntry { name, etag })?;
+        }
+    }
+    Ok(Some(entries))
+}
+
+/// The names of the subfolders, in byte order.
+pub fn subfolders<R: Files + AllocGlobal + Clone + Drop>(
+    rt: &R,
+    folder: &str,
+) -> io::Result<Option<Vec<Text>>> {
+    let Some(names) = listed(rt, folder, "")? else {
+        return Ok(None);
+    };
+    let mut folders = Vec::new(rt.alloc());
+    for name in names {
+        let path = path_of(rt, folder, name.as_str())?;
+        if kind_of(rt, path.as_str())? == Kind::Folder {
+            folders.push(Text::of(name))?;
+        }
+    }
+    Ok(Some(folders))
+}
+
+/// The bytes of a file, but no more than one above the limit. `None` where no file is there.
+pub fn read_file<R: Files + AllocGlobal>(
+    rt: &R,
+    folder: &str,
+    name: &str,
+    limit: u64,
+) -> io::Result<Option<Vec<u8>>> {
+    let path = path_of(rt, folder, name)?;
+    read_path(rt, path.as_str(), limit)
+}
+
+/// Whether a file is there with this etag.
+fn has_etag<R: Files + AllocGlobal>(rt: &R, path: &str, tag: &str) -> io::Result<bool> {
+    match etag_at(rt, path)? {
+        None => Ok(false),
+        Some(etag) => Ok(etag.as_str() == tag),
+    }
+}
+
+/// Whether the file is as a conditional write expects it.
+fn meets<R: Files + AllocGlobal>(
+    rt: &R,
+    folder: &str,
+    path: &str,
+    expect: Expect,
+) -> io::Result<bool> {
+    if kind_of(rt, folder)? != Kind::Folder {
+        return Ok(false);
+    }
+    match expect {
+        Expect::Absent => Ok(kind_of(rt, path)? != Kind::File),
+        Expect::Etag(tag) => has_etag(rt, path, tag),
+    }
+}
+
+/// Carries to the disk which names a folder has.
+fn sync_folder<R: Files>(rt: &R, folder: &str) -> io::Result<()> {
+    File::open(rt, folder)?.sync_all()
+}
+
+/// Fills the file beside, with the permissions of the file whose name it is to take, and carries it to the disk.
+fn fill<R: Files>(rt: &R, mut file: R::File, path: &str, bytes: &[u8]) -> io::Result<()> {
+    if let Ok(found) = fs::metadata(rt, path) {
+        file.set_permissions(found.permissions())?;
+    }
+    file.write_all(bytes)?;
+    file.sync_all()
+}
+
+/// Writes the file whole: first beside it, from where it then takes the file's name.
+fn write_whole<R: Files + AllocGlobal>(rt: &R, path: &str, bytes: &[u8]) -> io::Result<()> {
+    let beside = format!(in rt.alloc(); "{path}.tmp")?;
+    // What a write that was cut off has left there goes, and isn't written through where it is a link.
+    let _ = fs::remove_file(rt, beside.as_str());
+    let mut options = OpenOptions::new();
+    options.write(true).create_new(true);
+    let file = options.open(rt, beside.as_str())?;
+    let filled = fill(rt, file, path, bytes);
+    let done = match filled {
+        Ok(()) => fs::rename(rt, beside.as_str(), path),
+        Err(error) => Err(error),
+    };
+    if done.is_err() {
+        let _ = fs::remove_file(rt, beside.as_str());
+    }
+    done
+}
+
+/// Replaces a file that is as it was expected.
+pub fn replace_file<R: Files + AllocGlobal>(
+    rt: &R,
+    folder: &str,
+    name: &str,
+    expect: Expect,
+    new: &[u8],
+) -> io::Result<Change> {
+    let path = path_of(rt, folder, name)?;
+    if !meets(rt, folder, path.as_str(), expect)? {
+        return Ok(Change::Moved);
+    }
+    write_whole(rt, path.as_str(), new)?;
+    sync_folder(rt, folder)?;
+    Ok(Change::Done)
+}
+
+/// Removes a file that has this etag.
+pub fn remove_file<R: Files + AllocGlobal>(
+    rt: &R,
+    folder: &str,
+    name: &str,
+    tag: &str,
+) -> io::Result<Change> {
+    let path = path_of(rt, folder, name)?;
+    if !has_etag(rt, path.as_str(), tag)? {
+        return Ok(Change::Moved);
+    }
+    match fs::remove_file(rt, path.as_str()) {
+        Ok(()) => sync_folder(rt, folder)?,
+        Err(error) if is_absent(&error) => return Ok(Change::Moved),
+        Err(error) => return Err(error),
+    }
+    Ok(Change::Done)
+}
+
+/// Makes the folder and those above it.
+pub fn make_folder<R: Files>(rt: &R, folder: &str) -> io::Result<()> {
+    fs::create_dir_all(rt, folder)
+}

@@ -1,0 +1,34 @@
+//! The outside world as traits with a written meaning, and doubles in memory.
+#![tactic(auto)]
+
+mod dir_folder;
+mod disk;
+mod etag;
+mod faults;
+mod file_map;
+mod folder;
+mod mem_folder;
+mod mem_outfit;
+mod mem_streams;
+mod outfit;
+mod plan;
+mod planned;
+mod real_outfit;
+mod shelf;
+mod slots;
+mod std_streams;
+mod streams;
+mod subfolders;
+
+pub use dir_folder::DirFolder;
+pub use etag::etag_of;
+pub use folder::{Change, Expect, FileEntry, Folder, FolderError, FolderEvent, NoMemory};
+pub use mem_folder::MemFolder;
+pub use mem_outfit::{AbsentFolders, MemOutfit};
+pub use mem_streams::{MemSink, MemSource};
+pub use outfit::Outfit;
+pub use plan::{FaultPlace, FaultPlan, OutsideEdit};
+pub use real_outfit::{RealFolders, RealOutfit};
+pub use slots::{Blank, SlotOutfit};
+pub use std_streams::{StdSink, StdSource};
+pub use streams::{Sink, SinkFault, Source, SourceFault, write_all};

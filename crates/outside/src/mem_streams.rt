@@ -1,0 +1,148 @@
+//! A source and a sink in memory, with faults by a plan.
+
+ghost use Rattle.std.specs.Prelude.{◌≡◌, ◌≤◌, ◌+◌, ◌-◌, ◌++◌, [], IfOk, length, min, take, drop, vec_len, vec_capacity};
+
+use crate::folder::NoMemory;
+use crate::plan::{Fate, FaultPlan};
+use crate::planned::Planned;
+use crate::streams::{Sink, SinkFault, Source, SourceFault};
+use std::alloc::Global;
+use values::Bytes;
+
+/// A source in memory.
+#[derive(Drop)]
+pub struct MemSource {
+    bytes: Vec<u8>,
+    done: usize,
+    planned: Planned,
+    ghost within: { done ≤ vec_len bytes },
+}
+
+impl MemSource {
+    /// A source of these bytes. The edits of the plan mean nothing to it.
+    pub fn new(_alloc: Global, bytes: Bytes, plan: FaultPlan) -> Result<MemSource, NoMemory>
+        ensures tells { IfOk result (λ s. ⟦<MemSource as Source>⟧.tells s × (⟦<MemSource as Source>⟧.left s ≡ bytes)) }
+        ensures count { IfOk result (λ s. ⟦<MemSource as Source>⟧.count s ≡ 0) }
+    {
+        Ok(MemSource {
+            bytes: bytes.into_vec(),
+            done: 0,
+            planned: Planned::new(plan),
+        })
+    }
+
+    /// Moves as many bytes as fit into a piece.
+    fn take_into(&mut self, piece: &mut [u8]) -> usize
+        ensures taken { result ≡ min (length piece.old) (vec_len self.old.bytes - self.old.done) }
+        ensures given { drop self.old.done self.old.bytes.items ≡ take result piece.new ++ drop self.new.done self.new.bytes.items }
+        ensures planned { self.new.planned ≡ self.old.planned }
+    {
+        let left = &self.bytes[self.done..];
+        let taken = left.len().min(piece.len());
+        piece[..taken].copy_from_slice(&left[..taken]);
+        self.done += taken;
+        taken
+    }
+}
+
+impl Source for MemSource {
+    ghost use Rattle.std.specs.Prelude.{drop};
+
+    ghost count = { λ s. s.planned.faults.count };
+
+    ghost tells = { λ _. Unit {0} };
+
+    ghost left = { λ s. drop s.done s.bytes.items };
+
+    fn faults(&self) -> u64 {
+        self.planned.faults.count
+    }
+
+    fn read(&mut self, piece: &mut [u8]) -> Result<usize, SourceFault> {
+        match self.planned.begin() {
+            Fate::Acts => Ok(self.take_into(piece)),
+            Fate::Fails => Err(SourceFault),
+            Fate::ActsAndFails => {
+                self.take_into(piece);
+                Err(SourceFault)
+            }
+        }
+    }
+}
+
+/// A sink in memory with room for so many bytes.
+#[derive(Drop)]
+pub struct MemSink {
+    bytes: Vec<u8>,
+    room: usize,
+    planned: Planned,
+    ghost within: { vec_len bytes ≤ room },
+    ghost made: { room ≤ vec_capacity bytes },
+}
+
+impl MemSink {
+    /// An empty sink with room for so many bytes. The edits of the plan mean nothing to it.
+    pub fn new(alloc: Global, room: u64, plan: FaultPlan) -> Result<MemSink, NoMemory>
+        ensures tells { IfOk result (λ s. ⟦<MemSink as Sink>⟧.tells s × (⟦<MemSink as Sink>⟧.held s ≡ [])) }
+        ensures count { IfOk result (λ s. ⟦<MemSink as Sink>⟧.count s ≡ 0) }
+    {
+        let room = room as usize;
+        Ok(MemSink {
+            bytes: Vec::with_capacity(alloc, room)?,
+            room,
+            planned: Planned::new(plan),
+        })
+    }
+
+    /// All that was written. Takes no memory.
+    pub fn bytes(&self) -> &[u8]
+        ensures { result.now ≡ ⟦<MemSink as Sink>⟧.held self.now }
+    {
+        self.bytes.as_slice()
+    }
+
+    /// Adds as many bytes of a piece as still fit, and gives how many.
+    fn add(&mut self, piece: &[u8]) -> usize
+        ensures taken { result ≡ min (length piece.now) (self.old.room - vec_len self.old.bytes) }
+        ensures added { self.new.bytes.items ≡ self.old.bytes.items ++ take result piece.now }
+        ensures planned { self.new.planned ≡ self.old.planned }
+        ensures room { self.new.room ≡ self.old.room }
+    {
+        let taken = piece.len().min(self.room - self.bytes.len());
+        self.bytes.extend_from_slice(&piece[..taken]).unwrap();
+        taken
+    }
+}
+
+impl Sink for MemSink {
+    ghost count = { λ s. s.planned.faults.count };
+
+    ghost tells = { λ _. Unit {0} };
+
+    ghost held = { λ s. s.bytes.items };
+
+    fn faults(&self) -> u64 {
+        self.planned.faults.count
+    }
+
+    fn write(&mut self, piece: &[u8]) -> Result<usize, SinkFault> {
+        match self.planned.begin() {
+            Fate::Acts => {
+                let taken = self.add(piece);
+                if taken == 0 && !piece.is_empty() {
+                    self.planned.faults.raise();
+                    return Err(SinkFault);
+                }
+                Ok(taken)
+            }
+            Fate::Fails => Err(SinkFault),
+            Fate::ActsAndFails => {
+                self.add(piece);
+                Err(SinkFault)
+            }
+        }
+    }
+}
+
+#[cfg(test)]
+mod tests;
