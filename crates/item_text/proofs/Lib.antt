@@ -1,0 +1,14 @@
+pub mod AsciiTexts
+pub mod Chains
+pub mod Feeding
+pub mod HexDigits
+pub mod NameBytes
+pub mod Order
+pub mod PlainCards
+pub mod PlainLines
+pub mod PlainNames
+pub mod PlainReadings
+pub mod PlainUids
+pub mod PlainWords
+pub mod Reading
+pub mod Trims
