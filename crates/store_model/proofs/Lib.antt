@@ -1,0 +1,5 @@
+pub mod Moments
+pub mod Lacks
+pub mod NameLemmas
+pub mod Once
+pub mod Waits

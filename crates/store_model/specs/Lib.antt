@@ -1,0 +1,5 @@
+pub mod Sides
+pub mod StoreCalls
+pub mod Eithers
+pub mod Names
+pub mod Waits

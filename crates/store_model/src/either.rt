@@ -1,0 +1,91 @@
+//! One of two kinds of store, as a store: a job's side may be of either.
+
+use crate::store::{Entry, Fetched, Put, Store, StoreError};
+use item_text::Item;
+use values::Text;
+
+/// A store of one kind or of another. Every call is the held store's own.
+#[derive(Drop)]
+pub enum Either<X, Y> {
+    Left(X),
+    Right(Y),
+}
+
+impl<X: Store, Y: Store> Store for Either<X, Y> {
+    ghost use Rattle.store_model.specs.Eithers.{on_either};
+    ghost use Rattle.store_model.specs.Sides.{SideState};
+
+    ghost count = { on_either X.count Y.count };
+
+    ghost tells = { on_either X.tells Y.tells };
+
+    ghost side = { on_either X.side Y.side };
+
+    ghost setting = { on_either X.setting Y.setting };
+
+    ghost waits = { on_either X.waits Y.waits };
+
+    ghost waiting = { on_either X.waiting Y.waiting };
+
+    ghost is_listed = { on_either X.is_listed Y.is_listed };
+
+    ghost recalls = { on_either X.recalls Y.recalls };
+
+    ghost taken = { on_either X.taken Y.taken };
+
+    ghost may_name = { on_either X.may_name Y.may_name };
+
+    fn faults(&self) -> u64 {
+        match self {
+            Either::Left(x) => x.faults(),
+            Either::Right(y) => y.faults(),
+        }
+    }
+
+    fn list(&mut self) -> Result<Vec<Entry>, StoreError> {
+        match self {
+            Either::Left(x) => x.list(),
+            Either::Right(y) => y.list(),
+        }
+    }
+
+    fn get(&mut self, hrefs: &[Text]) -> Result<Vec<Fetched>, StoreError> {
+        match self {
+            Either::Left(x) => x.get(hrefs),
+            Either::Right(y) => y.get(hrefs),
+        }
+    }
+
+    fn put_new(&mut self, item: &Item) -> Result<Put, StoreError> {
+        match self {
+            Either::Left(x) => x.put_new(item),
+            Either::Right(y) => y.put_new(item),
+        }
+    }
+
+    fn put_over(
+        &mut self,
+        href: &str,
+        etag: &str,
+        item: &Item,
+    ) -> Result<Option<Text>, StoreError> {
+        match self {
+            Either::Left(x) => x.put_over(href, etag, item),
+            Either::Right(y) => y.put_over(href, etag, item),
+        }
+    }
+
+    fn drop_item(&mut self, href: &str, etag: &str) -> Result<(), StoreError> {
+        match self {
+            Either::Left(x) => x.drop_item(href, etag),
+            Either::Right(y) => y.drop_item(href, etag),
+        }
+    }
+
+    fn flush(&mut self) -> Result<(), StoreError> {
+        match self {
+            Either::Left(x) => x.flush(),
+            Either::Right(y) => y.flush(),
+        }
+    }
+}

@@ -1,0 +1,129 @@
+//! The file names that a store chooses for new items.
+
+ghost use Rattle.std.specs.Prelude.{◌≡◌, ℕ, List, IfOk, string_bytes};
+ghost use Rattle.std.specs.List.{list_all};
+ghost use Rattle.std.specs.BTreeSet.{contains_text};
+ghost use Rattle.store_model.specs.Names.{is_name_byte, begins_with_dot, is_plain, file_stem, candidate, IsFreeName};
+
+use outside::{NoMemory, etag_of};
+use std::alloc::Global;
+use std::collections::BTreeSet;
+use values::Text;
+
+/// The longest ident, in bytes, that is kept as a file's stem.
+const MAX_PLAIN: usize = 100;
+
+fn is_name_byte(b: u8) -> bool
+    ensures { result ≡ is_name_byte b }
+{
+    (b'a' <= b && b <= b'z')
+        || ((b'A' <= b && b <= b'Z')
+            || ((b'0' <= b && b <= b'9') || (b == b'_' || (b == b'-' || (b == b'.' || b == b'@')))))
+}
+
+fn begins_with_dot(bytes: &[u8]) -> bool
+    ensures { result ≡ begins_with_dot bytes.now }
+{
+    match bytes {
+        [] => false,
+        [first, ..] => *first == b'.',
+    }
+}
+
+fn are_name_bytes(bytes: &[u8]) -> bool
+    ensures { result ≡ list_all is_name_byte bytes.now }
+{
+    bytes.iter().all(|b| is_name_byte(*b))
+}
+
+fn is_plain(ident: &str) -> bool
+    ensures { result ≡ is_plain ident.now }
+{
+    let bytes = ident.as_bytes();
+    0 < bytes.len()
+        && (bytes.len() <= MAX_PLAIN && (!begins_with_dot(bytes) && are_name_bytes(bytes)))
+}
+
+/// The stem of the file name of a new item: its ident, where that is 1 to 100 bytes of ASCII
+/// letters, digits, `_`, `-`, `.` and `@` and doesn't begin with `.`; else the lower-case hex
+/// SHA-256 of the ident (this project's own rule).
+#[tactic(auto, unfolding(crate::specs::Names::file_stem))]
+pub fn file_stem(alloc: Global, ident: &str) -> Result<Text, NoMemory>
+    ensures { IfOk result (λ stem. stem ≡ file_stem ident.now) }
+{
+    if is_plain(ident) {
+        Ok(Text::copy_of(alloc, ident)?)
+    } else {
+        etag_of(alloc, ident.as_bytes())
+    }
+}
+
+#[tactic(auto, unfolding(crate::specs::Names::candidate))]
+fn candidate(alloc: Global, stem: &str, ending: &str, number: u64) -> Result<String, NoMemory>
+    ensures { IfOk result (λ name. string_bytes name ≡ candidate stem.now ending.now number) }
+{
+    let made = if number == 0 {
+        format!(in alloc; "{stem}{ending}")
+    } else {
+        format!(in alloc; "{stem}-{number}{ending}")
+    };
+    let Ok(name) = made else {
+        return Err(NoMemory);
+    };
+    Ok(name)
+}
+
+/// The first of `stem`, `stem-1`, `stem-2` and so on, each with the ending added, that isn't
+/// taken (this project's own rule). It looks up one name per name of this stem that is taken.
+pub fn free_name(
+    alloc: Global,
+    stem: &str,
+    ending: &str,
+    taken: &BTreeSet<String>,
+) -> Result<String, NoMemory>
+    ensures { IfOk result (λ name. IsFreeName (contains_text taken.now) stem.now ending.now (string_bytes name)) }
+{
+    for number in 0..u64::MAX {
+        let name = candidate(alloc, stem, ending, number)?;
+        if !taken.contains(name.as_str()) {
+            return Ok(name);
+        }
+    }
+    // That many names don't fit into any memory.
+    Err(NoMemory)
+}
+
+#[cfg(test)]
+mod tests {
+    use super::{file_stem, free_name};
+    use std::collections::BTreeSet;
+    use std::test::Fail;
+
+    #[test]
+    fn a_plain_ident_is_its_stem(rt: HostRuntime) -> Result<(), Fail> {
+        let stem = file_stem(rt.alloc(), "x")?;
+        assert_eq!(rt; stem.as_str(), "x");
+        Ok(())
+    }
+
+    // printf %s a/b | sha256sum
+    #[test]
+    fn another_ident_is_hashed(rt: HostRuntime) -> Result<(), Fail> {
+        let stem = file_stem(rt.alloc(), "a/b")?;
+        assert_eq!(rt;
+            stem.as_str(),
+            "c14cddc033f64b9dea80ea675cf280a015e672516090a5626781153dc68fea11"
+        );
+        Ok(())
+    }
+
+    #[test]
+    fn a_taken_name_is_passed_over(rt: HostRuntime) -> Result<(), Fail> {
+        let alloc = rt.alloc();
+        let mut taken = BTreeSet::new(alloc);
+        taken.insert(String::from_str(alloc, "x.vcf")?)?;
+        let name = free_name(alloc, "x", ".vcf", &taken)?;
+        assert_eq!(rt; name.as_str(), "x-1.vcf");
+        Ok(())
+    }
+}
