@@ -1,0 +1,5 @@
+mod Committing
+mod Lifting
+mod ReadBack
+mod Rising
+mod Texts

@@ -1,0 +1,7 @@
+pub mod FileStatus
+pub mod Idents
+pub mod Kept
+pub mod Reading
+pub mod Rows
+pub mod Status
+pub mod StatusName

@@ -1,0 +1,63 @@
+//! The keeper of a status.
+
+ghost use Rattle.std.specs.Prelude.{map, true, IfOk, IfErr, OnOk, ◌≡◌, ℕ, Bool};
+ghost use Rattle.outside.specs.Causes.{Rose};
+ghost use Rattle.status_keeper.specs.Idents.{IsRising};
+
+use crate::row::Row;
+use thiserror::Error;
+
+/// Why a status can't be loaded or committed.
+#[derive(Debug, Drop, Error)]
+pub enum KeeperError {
+    /// The device failed.
+    #[error("fault")]
+    Fault,
+    /// The file isn't as it was loaded. From `commit` alone.
+    #[error("moved")]
+    Moved,
+    /// The file is outside its form: 0 for the whole, else the number of the first bad row in byte order of idents.
+    #[error("damaged {0}")]
+    Damaged(u32),
+    /// More than 2 GiB, read or to be written.
+    #[error("too long")]
+    TooLong,
+    #[error("out of memory")]
+    NoMemory,
+}
+
+/// Keeps the rows of a job between its runs.
+pub trait Keeper {
+    ghost use Rattle.status_keeper.specs.Kept.{KeeperState, AfterEdits, Changes, IsEdit, IsCommitOf, KeeperCause, LoadAnswer, CommitAnswer};
+
+    /// The count of faults.
+    ghost count: { Self → ℕ };
+
+    /// Whether contracts can see what is kept.
+    ghost tells: { Self → Type 0 };
+
+    /// What is kept and what has happened to it, where the keeper tells it.
+    ghost state: { Self → KeeperState };
+
+    /// `load` has answered Ok.
+    ghost is_loaded: { Self → Bool };
+
+    fn faults(&self) -> u64
+        ensures { result ≡ count self.now };
+
+    /// The rows, in byte order of idents. A status that isn't there has none.
+    fn load(&mut self) -> Result<Vec<Row>, KeeperError>
+        ensures changes { Changes count tells state IsEdit self.old self.new }
+        ensures cause { IfErr result (KeeperCause (Rose (count self.old) (count self.new))) }
+        ensures rising { IfOk result (λ rows. IsRising (map (λ r. r.ident) rows.items)) }
+        ensures loaded { OnOk result (is_loaded self.new ≡ true) }
+        ensures answer { tells self.old → AfterEdits (state self.old) (λ m. LoadAnswer m (state self.new) result) };
+
+    /// Keeps these rows in place of those that were loaded.
+    fn commit(&mut self, rows: &[Row]) -> Result<(), KeeperError>
+        requires loaded { is_loaded self.old ≡ true }
+        requires rising { IsRising (map (λ r. r.ident) rows.now) }
+        ensures changes { Changes count tells state (IsCommitOf rows.now) self.old self.new }
+        ensures cause { IfErr result (KeeperCause (Rose (count self.old) (count self.new))) }
+        ensures answer { tells self.old → AfterEdits (state self.old) (λ m. CommitAnswer m (state self.new) rows.now result) };
+}
