@@ -1,0 +1,67 @@
+//! What a job reports.
+
+use status_keeper::KeeperError;
+use store_model::StoreError;
+use values::Text;
+
+/// One of the two sides of a job.
+#[derive(Clone, Copy, Debug, PartialEq, Eq)]
+pub enum Side {
+    A,
+    B,
+}
+
+/// What was not done for an ident.
+#[derive(Debug, Drop)]
+pub enum What {
+    /// The write to that side answered the error.
+    NotWritten { side: Side, error: StoreError },
+}
+
+/// A line of a report: an ident, and what was not done for it.
+#[derive(Debug, Drop)]
+pub struct Line {
+    pub ident: Text,
+    pub what: What,
+}
+
+/// Why a job was refused before any write.
+#[derive(Debug, Drop)]
+pub enum Refusal {
+    /// Two of its three places are the same.
+    SameLocation,
+    /// The status answered the error to its load.
+    Status(KeeperError),
+    /// That side answered the error to a reading call.
+    Storage {
+        side: Side,
+        error: StoreError,
+    },
+    /// Two items of that side have the ident: its first two hrefs, in byte order.
+    SameIdent {
+        side: Side,
+        ident: Text,
+        first: Text,
+        second: Text,
+    },
+    /// The least ident whose step is not built yet.
+    NotBuilt(Text),
+}
+
+/// How a job ended.
+#[derive(Debug, Drop)]
+pub enum JobEnd {
+    /// The sides and the status were brought together, but for what the lines say.
+    Synced,
+    Refused(Refusal),
+    /// All was written but the status.
+    NotCommitted(KeeperError),
+    NoMemory,
+}
+
+/// How a job ended, and a line for each ident that was not done.
+#[derive(Debug, Drop)]
+pub struct Report {
+    pub end: JobEnd,
+    pub lines: Vec<Line>,
+}

@@ -1,0 +1,13 @@
+pub mod Causes
+pub mod Distinct
+pub mod Glue
+pub mod JobLaws
+pub mod Copies
+pub mod Order
+pub mod Cells
+pub mod OnceSteps
+pub mod Lines
+pub mod ReadLemmas
+pub mod Commits
+pub mod Twins
+pub mod StatusLaws

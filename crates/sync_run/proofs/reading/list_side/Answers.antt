@@ -1,0 +1,12 @@
+use Rattle.store_model.proofs.Moments.{Changes-weaker, outside_is_no_write}
+use Rattle.sync_run.proofs.ReadLemmas.{listed_end}
+use Rattle.sync_run.proofs.reading.list_side.Goals as goal
+
+pub returns-in-Ok-clause-store : goal.returns-in-Ok-clause-store
+returns-in-Ok-clause-store g c = Changes-weaker outside_is_no_write c.list.ensures.changes
+
+pub returns-in-Err-clause-store : goal.returns-in-Err-clause-store
+returns-in-Err-clause-store g c = Changes-weaker outside_is_no_write c.list.ensures.changes
+
+pub returns-in-Err-clause-shown : goal.returns-in-Err-clause-shown
+returns-in-Err-clause-shown g c told = listed_end c.args.side c.in-Err.error c.refusal.result (g.S.Store.recalls c.list.new.self) (g.S.Store.side c.args.store.now) (g.S.Store.side c.list.new.self) c.refusal.ensures.is (c.in-Err.ensures.answer told)

@@ -1,0 +1,4 @@
+pub mod Ends
+pub mod Reads
+pub mod Steps
+pub mod Jobs
