@@ -1,0 +1,60 @@
+-- What one job does to its three places (this project's own).
+use Rattle.std.specs.Prelude.{◌≡◌, ◌≢◌, ◌≤◌, ◌⊎◌, ℕ, List, [], All}
+use Rattle.outside.specs.Causes.{Rose}
+use Rattle.outside.specs.Files.{FolderState}
+use Rattle.outside.specs.Places.{Place, place_by, IsSame, StayTold}
+use Rattle.store_model.specs.Sides.{Evolves, IsAdding}
+use Rattle.store_model.specs.StoreCalls.{StoreCause}
+use Rattle.vdir_store.specs.Names.{SpeaksOf}
+use Rattle.vdir_store.specs.Vdir.{side_of}
+use Rattle.status_keeper.specs.Kept.{KeeperCause}
+use Rattle.status_keeper.specs.FileStatus.{state_of}
+use Rattle.sync_plan.specs.declared.report.Report.{Report}
+use Rattle.sync_plan.specs.declared.report.Refusal.TheVariants.{SameLocation}
+use Rattle.sync_plan.specs.declared.report.JobEnd.TheVariants.{Refused}
+use Rattle.sync_run.specs.Ends.{IsCausedEnd, IsCausedWhat}
+use Rattle.sync_run.specs.Jobs.{JobRun}
+use Rattle.vdirsyncer_cli.specs.declared.job.Job.{Job}
+use Rattle.vdirsyncer_cli.specs.Places.{Places, place_at}
+use Rattle.vdirsyncer_cli.specs.SamePlace.{IsSamePlace}
+use Rattle.vdirsyncer_cli.specs.declared.opened.Opened.{Opened}
+
+-- one run of a job, between its two sides and its status at entry and at exit, and whether each tells its state
+pub record JobStep (ending_a ending_b : List ℕ) (a a' b b' s s' : Place) (tells_a tells_a' tells_b tells_b' tells_s tells_s' : Type 0) (report : Report) : Type 0 where
+  pub later_a : a.faults ≤ a'.faults
+  pub later_b : b.faults ≤ b'.faults
+  pub later_s : s.faults ≤ s'.faults
+  pub end : IsCausedEnd (StoreCause (Rose a.faults a'.faults)) (StoreCause (Rose b.faults b'.faults)) (KeeperCause (Rose s.faults s'.faults)) report.end
+  pub lines : All (λ line. IsCausedWhat (StoreCause (Rose a.faults a'.faults)) (StoreCause (Rose b.faults b'.faults)) line.what) report.lines.items
+  -- own writes on a side come only where nothing stood. Contracts don't speak of an ending that itself ends with `.tmp`
+  pub told_a : SpeaksOf ending_a → tells_a → tells_a' × Evolves IsAdding (side_of ending_a a.state) (side_of ending_a a'.state)
+  pub told_b : SpeaksOf ending_b → tells_b → tells_b' × Evolves IsAdding (side_of ending_b b.state) (side_of ending_b b'.state)
+  pub told_s : tells_s → tells_s'
+  -- all that is said of the job
+  pub run : SpeaksOf ending_a → SpeaksOf ending_b → tells_a → tells_b → tells_s →
+      JobRun (side_of ending_a a.state) (side_of ending_a a'.state) (side_of ending_b b.state) (side_of ending_b b'.state) (state_of s.state) (state_of s'.state) report.end report.lines.items
+
+-- a job ran over its three places, which differ, and touched no other
+pub record Ran (old new : Places) (tells tells' : List ℕ → Type 0) (job : Job) (report : Report) : Type 0 where
+  pub apart : IsSamePlace job.a job.b job.status → ⊥
+  pub step : JobStep job.ending_a job.ending_b (place_at old job.a) (place_at new job.a) (place_at old job.b) (place_at new job.b) (place_at old job.status) (place_at new job.status)
+      (tells job.a) (tells' job.a) (tells job.b) (tells' job.b) (tells job.status) (tells' job.status) report
+  pub others : (q : List ℕ) → q ≢ job.a → q ≢ job.b → q ≢ job.status → new q ≡ old q
+  pub others_tell : (q : List ℕ) → q ≢ job.a → q ≢ job.b → q ≢ job.status → tells q → tells' q
+
+-- a job was refused before any of its places was opened, since two of them are the same
+pub record RefusedSame (old new : Places) (tells tells' : List ℕ → Type 0) (job : Job) (report : Report) : Type 0 where
+  pub same : IsSamePlace job.a job.b job.status
+  pub end : report.end ≡ Refused SameLocation
+  pub lines : report.lines.items ≡ []
+  pub places : IsSame old new
+  pub tells_still : StayTold tells tells'
+
+abbrev pub JobAt : Places → Places → (List ℕ → Type 0) → (List ℕ → Type 0) → Job → Report → Type 0
+JobAt old new tells tells' job report = Ran old new tells tells' job report ⊎ RefusedSame old new tells tells' job report
+
+-- one run of a job over its three folders, which are handed back
+abbrev pub OverFolders : {D : Type 0} → (D → ℕ) → (D → Type 0) → (D → FolderState) → List ℕ → List ℕ → Opened D → Opened D → Report → Type 0
+OverFolders count tells state ending_a ending_b d e report =
+    JobStep ending_a ending_b (place_by count state d.a) (place_by count state e.a) (place_by count state d.b) (place_by count state e.b) (place_by count state d.status) (place_by count state e.status)
+    (tells d.a) (tells e.a) (tells d.b) (tells e.b) (tells d.status) (tells e.status) report

@@ -1,0 +1,11 @@
+pub mod Opened
+pub mod Places
+pub mod Printing
+pub mod SamePlace
+pub mod Configs
+pub mod Paths
+pub mod Texts
+pub mod Words
+pub mod Jobs
+pub mod ConfigRead
+pub mod Runs

@@ -1,0 +1,21 @@
+//! The command line: its words, its configuration, its printed texts, and the top call.
+#![tactic(auto)]
+
+mod config;
+mod config_read;
+mod job;
+mod naming;
+mod one_job;
+mod opened;
+mod paths;
+mod printing;
+mod reader;
+#[cfg(test)]
+mod run_tests;
+#[cfg(test)]
+mod tests;
+mod texts;
+mod top_call;
+mod words;
+
+pub use top_call::{Env, run_words};
