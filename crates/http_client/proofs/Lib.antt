@@ -1,0 +1,10 @@
+mod Codings
+mod EmptyLines
+mod Exact
+mod Lengths
+mod Passing
+mod RequestLemmas
+mod Rests
+mod Stays
+mod Unique
+mod Walks

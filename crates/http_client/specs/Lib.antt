@@ -1,0 +1,6 @@
+pub mod Chunks
+pub mod Frames
+pub mod Heads
+pub mod Parts
+pub mod Replies
+pub mod Request
