@@ -70,14 +70,14 @@ Evolves-first whole first second = Runs-first side_keeps whole first second
 pub kind_at : {Kind : StoreEvent → Type 0} {s m t : SideState} (e : StoreEvent) → Evolves Kind s t → Since s m → IsTrueEvent m e → Since (happens m e) t → Kind e
 kind_at e whole first is_true later = Runs-kind_at side_keeps {e = e} whole first is_true later
 
-same_key : (x y : List ℕ) → eq_by_cmp (slice_cmp nat_cmp) x y ≡ true → x ≡ y
+pub same_key : (x y : List ℕ) → eq_by_cmp (slice_cmp nat_cmp) x y ≡ true → x ≡ y
 same_key x y e = slice_cmp-IsAntisymmetric nat_cmp-IsAntisymmetric x y ((Equal-is (slice_cmp nat_cmp x y)).0 e)
 
 choice : {X : Type 0} (b : Bool) (x y z : X) → z ≡ cond b x y → ((b ≡ true) × (z ≡ x)) ⊎ (z ≡ y)
 choice true x y z e = inl (refl, e)
 choice false x y z e = inr e
 
-get-put_held : (c : Content) (href q : List ℕ) (new : Option Held) → ((q ≡ href) × (fin.get (put_held c href new) q ≡ new)) ⊎ (fin.get (put_held c href new) q ≡ fin.get c q)
+pub get-put_held : (c : Content) (href q : List ℕ) (new : Option Held) → ((q ≡ href) × (fin.get (put_held c href new) q ≡ new)) ⊎ (fin.get (put_held c href new) q ≡ fin.get c q)
 get-put_held c href q (Some held) = elim (choice _ (Some held) (fin.get c q) _ (get-insert nat_list_cmp_total c href held q)) [ inl h ↦ inl (same_key q href h.0, h.1) | inr h ↦ inr h ]
 get-put_held c href q None = elim (choice _ None (fin.get c q) _ (get-remove nat_list_cmp_total c href q)) [ inl h ↦ inl (same_key q href h.0, h.1) | inr h ↦ inr h ]
 

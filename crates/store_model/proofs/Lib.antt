@@ -3,3 +3,4 @@ pub mod Lacks
 pub mod NameLemmas
 pub mod Once
 pub mod Waits
+pub mod Known

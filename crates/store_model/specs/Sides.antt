@@ -115,6 +115,15 @@ pub record WasRead (s t : SideState) (text : List ℕ) : Type 0 where
   pub is_true : IsTrueEvent moment (Read href text)
   pub until : Since (happens moment (Read href text)) t
 
+-- from s to t an edit from outside came
+pub record WasEdited (s t : SideState) : Type 0 where
+  pub moment : SideState
+  pub event : StoreEvent
+  pub from : Since s moment
+  pub is_outside : IsOutside event
+  pub is_true : IsTrueEvent moment event
+  pub until : Since (happens moment event) t
+
 -- from s to t this own write was made, and nothing else happened but edits from outside
 pub record Writes (e : StoreEvent) (s t : SideState) : Type 0 where
   pub moment : SideState

@@ -16,7 +16,7 @@ use Rattle.store_model.specs.declared.store.Put.{Put}
 use Rattle.store_model.specs.declared.store.StoreError.{StoreError}
 use Rattle.store_model.specs.declared.store.StoreError.TheVariants.{Fault, Moved, TooLong, TooMany, NotThere, Vanished, BadItem, NoMemory}
 use Rattle.outside.specs.Runs.{ChangesBy}
-use Rattle.store_model.specs.Sides.{Content, SideState, happens, IsTrueEvent, Evolves, IsOutside, Sometime, WasRead, Writes, HoldsAt}
+use Rattle.store_model.specs.Sides.{Content, SideState, happens, IsTrueEvent, Evolves, IsOutside, Sometime, WasRead, WasEdited, Writes, HoldsAt}
 use Rattle.store_model.specs.Waits.{Change, fits, new_at, Acts, Sent, Flushes}
 
 abbrev pub entry_of : List ℕ × Held → Entry
@@ -52,6 +52,23 @@ TakenByList had has (Err e) = (q : List ℕ) → has q ≡ had q
 abbrev pub TakenByPut : (List ℕ → Bool) → (List ℕ → Bool) → Result Put StoreError → Type 0
 TakenByPut had has (Ok put) = (q : List ℕ) → has q ≡ (bytes_eq put.href q || had q)
 TakenByPut had has (Err e) = (q : List ℕ) → has q ≡ had q
+
+-- the collection is there, and each href at which something stands is in use as the store knows it
+pub record IsKnown (taken : List ℕ → Bool) (m : SideState) : Type 0 where
+  pub there : m.is_there ≡ true
+  pub covers : (q : List ℕ) → taken q ≡ false → fin.get m.content q ≡ None
+
+-- after a new item was put into a side that was known: it is known still, unless an edit from outside came. Without such an edit no name was taken
+abbrev pub KnownAfterPut : SideState → (List ℕ → Bool) → SideState → Result Put StoreError → Type 0
+KnownAfterPut s taken t (Ok put) = WasEdited s t ⊎ IsKnown taken t
+KnownAfterPut s taken t (Err Moved) = WasEdited s t
+KnownAfterPut s taken t (Err Fault) = Unit {0}
+KnownAfterPut s taken t (Err NoMemory) = Unit {0}
+KnownAfterPut s taken t (Err TooLong) = ⊥
+KnownAfterPut s taken t (Err TooMany) = ⊥
+KnownAfterPut s taken t (Err NotThere) = ⊥
+KnownAfterPut s taken t (Err (Vanished href)) = ⊥
+KnownAfterPut s taken t (Err (BadItem href error)) = ⊥
 
 -- a store changed by events of this kind alone, where it tells its side; its count of faults doesn't fall
 abbrev pub Changes : {X : Type 0} → (X → ℕ) → (X → Type 0) → (X → SideState) → (StoreEvent → Type 0) → X → X → Type 0
@@ -113,21 +130,32 @@ IsPutOf item (Read href text) = ⊥
 pub record StoresNew (s t : SideState) (item : ItemValue) (href : List ℕ) (held : Held) : Type 0 where
   pub writes : Writes (Wrote href None (Some held) (Some item.text)) s t
 
--- what an error of a writing call leaves: where it moved nothing was written, and else the change acted whole or not at all
+-- what an error of a writing call leaves: where it moved nothing was written, and else the change acted whole or not at all.
+-- No store that tells its side has a limit on what it is sent
 abbrev pub Unsent : Change → SideState → List Change → SideState → List Change → StoreError → Type 0
 Unsent c s w t w' Moved = Evolves IsOutside s t × Sometime (λ m. fits c m ≡ false) s t × (w' ≡ w)
 Unsent c s w t w' Fault = (Evolves IsOutside s t ⊎ Acts c s t) × (w' ≡ w)
-Unsent c s w t w' TooLong = (Evolves IsOutside s t ⊎ Acts c s t) × (w' ≡ w)
 Unsent c s w t w' NoMemory = (Evolves IsOutside s t ⊎ Acts c s t) × (w' ≡ w)
+Unsent c s w t w' TooLong = ⊥
 Unsent c s w t w' TooMany = ⊥
 Unsent c s w t w' NotThere = ⊥
 Unsent c s w t w' (Vanished href) = ⊥
 Unsent c s w t w' (BadItem href error) = ⊥
 
+-- a new item wasn't stored, or it was under an href that it may get
+abbrev pub NewUnsent : (List ℕ → Type 0) → ItemValue → SideState → List Change → SideState → List Change → StoreError → Type 0
+NewUnsent may item s w t w' e = (Evolves IsOutside s t × (w' ≡ w)) ⊎ ((href : List ℕ) × may href × Unsent (new_at href item.text) s w t w' e)
+
 abbrev pub PutNewAnswer : Bool → (List ℕ → Type 0) → ItemValue → SideState → List Change → SideState → List Change → Result Put StoreError → Type 0
 PutNewAnswer waits may item s w t w' (Ok put) = may put.href × Sent waits (new_at put.href item.text) put.etag s w t w'
 PutNewAnswer waits may item s w t w' (Err Moved) = (href : List ℕ) × may href × Unsent (new_at href item.text) s w t w' Moved
-PutNewAnswer waits may item s w t w' (Err e) = (Evolves IsOutside s t × (w' ≡ w)) ⊎ ((href : List ℕ) × may href × Unsent (new_at href item.text) s w t w' e)
+PutNewAnswer waits may item s w t w' (Err Fault) = NewUnsent may item s w t w' Fault
+PutNewAnswer waits may item s w t w' (Err NoMemory) = NewUnsent may item s w t w' NoMemory
+PutNewAnswer waits may item s w t w' (Err TooLong) = ⊥
+PutNewAnswer waits may item s w t w' (Err TooMany) = ⊥
+PutNewAnswer waits may item s w t w' (Err NotThere) = ⊥
+PutNewAnswer waits may item s w t w' (Err (Vanished href)) = ⊥
+PutNewAnswer waits may item s w t w' (Err (BadItem href error)) = ⊥
 
 abbrev pub PutOverAnswer : Bool → Change → SideState → List Change → SideState → List Change → Result (Option (List ℕ)) StoreError → Type 0
 PutOverAnswer waits c s w t w' (Ok etag) = Sent waits c etag s w t w'
@@ -151,15 +179,21 @@ Keeps waits is_listed old new = (waits new ≡ waits old) × (is_listed old ≡ 
 abbrev pub IsReady : {X : Type 0} → (X → Bool) → (X → Bool) → X → Type 0
 IsReady waits is_listed x = (waits x ≡ false) × (is_listed x ≡ true)
 
+-- the item was stored once where nothing stood, or not at all
+abbrev pub PutsAtMostOnce : SideState → SideState → ItemValue → Type 0
+PutsAtMostOnce s t item = Evolves IsOutside s t ⊎ ((href : List ℕ) × (held : Held) × StoresNew s t item href held)
+
 -- (for stores whose writes don't wait) what put_new answers
 abbrev pub PutAnswer : SideState → SideState → ItemValue → Result Put StoreError → Type 0
 PutAnswer s t item (Ok put) = (held : Held) × StoresNew s t item put.href held × (put.etag ≡ Some held.etag)
 PutAnswer s t item (Err Moved) = Evolves IsOutside s t
-PutAnswer s t item (Err e) = Evolves IsOutside s t ⊎ ((href : List ℕ) × (held : Held) × StoresNew s t item href held)
-
--- the item was stored once where nothing stood, or not at all
-abbrev pub PutsAtMostOnce : SideState → SideState → ItemValue → Type 0
-PutsAtMostOnce s t item = Evolves IsOutside s t ⊎ ((href : List ℕ) × (held : Held) × StoresNew s t item href held)
+PutAnswer s t item (Err Fault) = PutsAtMostOnce s t item
+PutAnswer s t item (Err NoMemory) = PutsAtMostOnce s t item
+PutAnswer s t item (Err TooLong) = ⊥
+PutAnswer s t item (Err TooMany) = ⊥
+PutAnswer s t item (Err NotThere) = ⊥
+PutAnswer s t item (Err (Vanished href)) = ⊥
+PutAnswer s t item (Err (BadItem href error)) = ⊥
 
 -- an error and its cause: a Fault comes only where the count rose, and want of memory is never wrapped
 abbrev pub StoreCause : Type 0 → StoreError → Type 0

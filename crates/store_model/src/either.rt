@@ -12,7 +12,7 @@ pub enum Either<X, Y> {
 }
 
 impl<X: Store, Y: Store> Store for Either<X, Y> {
-    ghost use Rattle.store_model.specs.Eithers.{on_either};
+    ghost use Rattle.store_model.specs.Eithers.{on_either, free_by_either};
     ghost use Rattle.store_model.specs.Sides.{SideState};
 
     ghost count = { on_either X.count Y.count };
@@ -88,4 +88,6 @@ impl<X: Store, Y: Store> Store for Either<X, Y> {
             Either::Right(y) => y.flush(),
         }
     }
+
+    ghost new_is_free = { free_by_either X.may_name Y.may_name X.taken Y.taken X.new_is_free Y.new_is_free };
 }

@@ -1,6 +1,6 @@
 //! What a store is: the calls of every kind of storage, and what each may do.
 
-ghost use Rattle.std.specs.Prelude.{◌≡◌, ℕ, Bool, true, List, [], ◌∷◌, IfErr, OnOk};
+ghost use Rattle.std.specs.Prelude.{◌≡◌, ℕ, Bool, true, false, List, [], ◌∷◌, IfErr, OnOk};
 ghost use Rattle.outside.specs.Causes.{Rose};
 
 use item_text::{Item, ItemError};
@@ -179,4 +179,7 @@ pub trait Store {
         ensures kept { waits self.new ≡ waits self.old }
         ensures hrefs { (q : List ℕ) → taken self.new q ≡ taken self.old q }
         ensures same { setting self.new ≡ setting self.old };
+
+    /// An href that a new item may get isn't in use, as the store knows it.
+    ghost new_is_free: { (s : Self) (item : ItemValue) (href : List ℕ) → may_name s item href → taken s href ≡ false };
 }

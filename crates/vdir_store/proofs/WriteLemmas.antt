@@ -173,7 +173,7 @@ put_ok may name item s t put tag href etag chosen sent =
 pub put_err : (may : List ℕ → Type 0) (name : List ℕ) (item : ItemValue) (s t : SideState) (e : StoreError) → may name → Unsent (new_at name item.text) s [] t [] e → PutNewAnswer false may item s [] t [] (Err e)
 put_err may name item s t store_error.Moved chosen unsent = (name, chosen, unsent)
 put_err may name item s t store_error.Fault chosen unsent = inr (name, chosen, unsent)
-put_err may name item s t store_error.TooLong chosen unsent = inr (name, chosen, unsent)
+put_err may name item s t store_error.TooLong chosen unsent = absurd unsent
 put_err may name item s t store_error.NoMemory chosen unsent = inr (name, chosen, unsent)
 put_err may name item s t store_error.TooMany chosen unsent = absurd unsent
 put_err may name item s t store_error.NotThere chosen unsent = absurd unsent

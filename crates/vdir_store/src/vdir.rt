@@ -152,4 +152,6 @@ impl<F: Folder> Store for VdirStore<F> {
     fn flush(&mut self) -> Result<(), StoreError> {
         Ok(())
     }
+
+    ghost new_is_free = { λ v item href may. may.free };
 }
