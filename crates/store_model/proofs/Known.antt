@@ -1,12 +1,13 @@
 -- What a store knows of its side stays true until an edit from outside comes.
 use Rattle.std.proofs.Common.{◌≡◌, ◌⊎◌, inl, inr, ℕ, Bool, true, false, not, cond, List, [], ◌∷◌, Option, Some, None, is_none, map, Result, Ok, Err, ◌&&◌, ◌||◌, refl, sym, ◌∙◌, subst, ap}
-use Rattle.std.specs.Ordering.{nat_cmp, eq_by_cmp}
+use Rattle.std.specs.Ordering.{nat_cmp}
 use Rattle.std.specs.Cmp.Lexicographic.{slice_cmp}
 use Rattle.std.specs.FinMap as fin
 use Rattle.std.specs.FinMap.{get-entries, find}
 use Rattle.std.specs.List.{list_any}
 use Rattle.std.specs.Str.{bytes_eq}
 use Rattle.std.proofs.lemmas.Bool.{false≢true}
+use Rattle.std.proofs.lemmas.Map.Text.{is_eq-slice_cmp}
 use Rattle.std.proofs.lemmas.Slice.Eq.{bytes_eq-Decides}
 use Rattle.std.specs.declared.vec.Vec.{Vec}
 use Rattle.std.specs.declared.alloc.Global.{Global}
@@ -23,7 +24,7 @@ use Rattle.store_model.specs.Sides.{Content, SideState, put_held, happens, IsTru
 use Rattle.store_model.specs.Waits.{Change, fits, fits_at, new_at, Acts}
 use Rattle.store_model.specs.StoreCalls.{entry_of, IsListed, TakenByList, TakenByPut, IsKnown, KnownAfterPut, PutNewAnswer}
 use Rattle.store_model.proofs.Moments.{Evolves-refl, Evolves-trans, Evolves-one, Since-from_evolves}
-use Rattle.store_model.proofs.Lacks.{Evolves-first, get-put_held, same_key}
+use Rattle.store_model.proofs.Lacks.{Evolves-first, get-put_held}
 
 pub edited_extends : {s s' t t' : SideState} → Since s s' → WasEdited s' t → Since t t' → WasEdited s t'
 edited_extends before edited after = record { moment = edited.moment; event = edited.event; from = Evolves-trans before edited.from; is_outside = edited.is_outside; is_true = edited.is_true; until = Evolves-trans edited.until after }
@@ -61,18 +62,11 @@ either_false : (a b : Bool) → (a || b) ≡ false → (a ≡ false) × (b ≡ f
 either_false true b h = absurd (false≢true (sym h))
 either_false false b h = (refl, h)
 
-other_key : (q k : List ℕ) → bytes_eq q k ≡ false → eq_by_cmp (slice_cmp nat_cmp) q k ≡ false
-other_key q k h = at (eq_by_cmp (slice_cmp nat_cmp) q k) refl
-  where
-    at : (b : Bool) → eq_by_cmp (slice_cmp nat_cmp) q k ≡ b → b ≡ false
-    at false e = refl
-    at true e = absurd (false≢true (sym h ∙ (bytes_eq-Decides q k).1 (same_key q k e)))
-
 unlisted : (q : List ℕ) (es : List (List ℕ × Held)) → list_any (λ (e : Entry). bytes_eq q e.href) (map entry_of es) ≡ false → find (slice_cmp nat_cmp) q es ≡ None
 unlisted q [] h = refl
 unlisted q (e ∷ es) h =
     let both = either_false (bytes_eq q e.0) (list_any (λ (e : Entry). bytes_eq q e.href) (map entry_of es)) h in
-    ap (λ (b : Bool). cond b (Some e.1) (find (slice_cmp nat_cmp) q es)) (other_key q e.0 both.0) ∙ unlisted q es both.1
+    ap (λ (b : Bool). cond b (Some e.1) (find (slice_cmp nat_cmp) q es)) (is_eq-slice_cmp q e.0 ∙ both.0) ∙ unlisted q es both.1
 
 -- after a listing the side is known, unless an edit from outside came
 pub listed_known : (recalls : Content → Type 0) (had has : List ℕ → Bool) (s t : SideState) (entries : Vec Entry Global) → Evolves IsOutside s t → Sometime (IsListed recalls (Ok entries)) s t → TakenByList had has (Ok entries) → WasEdited s t ⊎ IsKnown has t
@@ -95,6 +89,10 @@ known_still had has s t run same known = elim (same_or_edited run) [
   | inr edited ↦ inl edited
   | inl still ↦ inr (record { there = still.1 ∙ known.there; covers = λ q free. ap (λ (c : Content). fin.get c q) still.0 ∙ known.covers q (sym (same q) ∙ free) })
 ]
+
+pub read_known : (had has : List ℕ → Bool) (s m t : SideState) → Evolves IsNoWrite m t → ((q : List ℕ) → has q ≡ had q) → WasEdited s m ⊎ IsKnown had m → Since s m → WasEdited s t ⊎ IsKnown has t
+read_known had has s m t run same (inl edited) before = inl (edited_extends (Evolves-refl s) edited (Since-from_evolves run))
+read_known had has s m t run same (inr known) before = elim (known_still had has m t run same known) [ inl edited ↦ inl (edited_extends before edited (Evolves-refl t)) | inr still ↦ inr still ]
 
 put_covers : (taken taken' : List ℕ → Bool) (href : List ℕ) (new : Option Held) (s : SideState) → ((q : List ℕ) → taken' q ≡ (bytes_eq href q || taken q)) → IsKnown taken s → (q : List ℕ) → taken' q ≡ false → fin.get (put_held s.content href new) q ≡ None
 put_covers taken taken' href new s takes known q free =

@@ -70,7 +70,7 @@ Evolves-first whole first second = Runs-first side_keeps whole first second
 pub kind_at : {Kind : StoreEvent → Type 0} {s m t : SideState} (e : StoreEvent) → Evolves Kind s t → Since s m → IsTrueEvent m e → Since (happens m e) t → Kind e
 kind_at e whole first is_true later = Runs-kind_at side_keeps {e = e} whole first is_true later
 
-pub same_key : (x y : List ℕ) → eq_by_cmp (slice_cmp nat_cmp) x y ≡ true → x ≡ y
+same_key : (x y : List ℕ) → eq_by_cmp (slice_cmp nat_cmp) x y ≡ true → x ≡ y
 same_key x y e = slice_cmp-IsAntisymmetric nat_cmp-IsAntisymmetric x y ((Equal-is (slice_cmp nat_cmp x y)).0 e)
 
 choice : {X : Type 0} (b : Bool) (x y z : X) → z ≡ cond b x y → ((b ≡ true) × (z ≡ x)) ⊎ (z ≡ y)

@@ -20,7 +20,8 @@ use Rattle.sync_run.specs.declared.planning.Step.{Step}
 use Rattle.sync_run.specs.declared.planning.Step.TheVariants.{Keep, CopyTo}
 use Rattle.sync_run.specs.declared.planning.Planned.{Planned}
 use Rattle.status_keeper.specs.Rows.{row_of, row_idents, RowStep}
-use Rattle.sync_run.specs.Steps.{rows_of, on_a, on_b, IsRowOf, IsOneIdent, IsPlanned, HoldsItem, IsVouched, IsPlaced, IsStepRow, IsStepWrite, kept_row, copied_row, IsCopiedRow, IsDoneRow, IsLineOf, AnyIs, HasLine, IsExcused, step_ident, step_idents}
+use Rattle.sync_run.specs.Reads.{AnyIs}
+use Rattle.sync_run.specs.Steps.{rows_of, on_a, on_b, IsRowOf, IsOneIdent, IsPlanned, HoldsItem, IsVouched, IsPlaced, IsStepRow, IsStepWrite, kept_row, copied_row, IsCopiedRow, IsDoneRow, IsLineOf, HasLine, IsExcused, step_ident, step_idents}
 use Rattle.std.specs.List.{AllByRecursion}
 use Rattle.std.proofs.lemmas.Bool.{false≢true}
 use Rattle.std.proofs.lemmas.List.{map-append}

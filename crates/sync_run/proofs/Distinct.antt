@@ -18,7 +18,8 @@ use Rattle.sync_run.specs.declared.planning.Step.TheVariants.{Keep, CopyTo}
 use Rattle.sync_run.specs.declared.planning.Planned.{Planned}
 use Rattle.status_keeper.specs.Idents.{Precedes, IsFalling}
 use Rattle.status_keeper.specs.Rows.{row_of}
-use Rattle.sync_run.specs.Steps.{rows_of, step_ident, step_idents, IsRowOf, IsOneIdent, IsPlanned, AnyIs}
+use Rattle.sync_run.specs.Reads.{AnyIs}
+use Rattle.sync_run.specs.Steps.{rows_of, step_ident, step_idents, IsRowOf, IsOneIdent, IsPlanned}
 
 -- by recursion, to be an element
 abbrev In : Planned → List Planned → Type 0

@@ -28,9 +28,10 @@ use Rattle.sync_plan.specs.declared.report.Refusal.{Refusal}
 use Rattle.std.proofs.lemmas.Bool.{false≢true}
 use Rattle.sync_run.proofs.Distinct.{unnamed_in, unplanned_in, row_of_step, no_step_no_row}
 use Rattle.status_keeper.specs.Rows.{row_of, RowStep}
-use Rattle.sync_run.specs.Steps.{IsExcused, rows_of, step_ident, step_idents, IsOther, IsOneIdent, IsPlanned, on_a, on_b, HoldsItem, IsVouched, IsPlaced, IsStepRow, IsSent, IsStepWrite, IsWhatOf, IsStepLine, IsPlanEnd, line_idents}
+use Rattle.sync_run.specs.Steps.{IsExcused, rows_of, step_ident, step_idents, IsOther, IsOneIdent, IsPlanned, on_a, on_b, HoldsItem, IsVouched, IsPlaced, IsStepRow, IsSent, IsStepWrite, IsWhatOf, IsStepLine, IsPlanEnd, line_idents, HasCause}
 use Rattle.sync_run.specs.Ends.{IsEarlyEnd, IsFullEnd, IsRefused, IsUnloaded, LinesAt}
 use Rattle.sync_run.specs.Reads.{IsTrueOfStatus, IsStorageEnd, IsShown}
+use Rattle.sync_run.proofs.LineCauses.{no_lines_cause, cause_at, lines_done}
 use Rattle.sync_run.proofs.Twins.{stood_twice}
 use Rattle.sync_run.proofs.ReadLemmas.{read_rows, read_cause}
 use Rattle.sync_plan.specs.declared.report.Refusal.TheVariants.{SameLocation, Status, Storage, SameIdent, NotBuilt}
@@ -208,6 +209,8 @@ only_read {a} {a'} {b} {b'} {k} {k'} before end lines reads_a reads_b load rows 
       refused = λ is. (refl, refl, none);
       lines_rise = no_lines_rise lines none;
       lines_are_true = no_lines_are_true (IsTrueLine a a' b b' before before) lines none;
+      cause_a = no_lines_cause A a a' lines none;
+      cause_b = no_lines_cause B b b' lines none;
     }
 
 excused_is_left : (steps : List Planned) (before : List Row) (a am b bm : SideState) (lines : List Line) → IsRead steps before a am b bm → (ident : List ℕ) → IsExcused steps lines ident → IsLeft a am b bm before lines ident
@@ -261,9 +264,9 @@ pub ran : {a am a' b bm b' : SideState} {k km k' : status.KeeperState} (steps : 
     status.Evolves status.IsEdit k km → km.kept ≡ Ok before → IsRead steps before a am b bm →
     RowStep (IsStepRow steps am a' bm b') (IsExcused steps done) before rows → (changed ≡ false → rows ≡ before) → (changed ≡ true → rows ≢ before) →
     IsRising (line_idents done) → AllByRecursion (IsStepLine steps rows) done →
-    StatusEnd changed end km k' rows → LinesAt end lines done → (IsRefused end → ⊥) →
+    StatusEnd changed end km k' rows → LinesAt end lines done → (IsRefused end → ⊥) → HasCause A a a' done → HasCause B b b' done →
     JobRun a a' b b' k k' end lines
-ran {a} {am} {a'} {b} {bm} {b'} {k} {km} {k'} steps before rows changed end done lines reads_a reads_b writes_a writes_b once_a once_b load is_loaded read step same differs rise of_steps committed at not_refused =
+ran {a} {am} {a'} {b} {bm} {b'} {k} {km} {k'} steps before rows changed end done lines reads_a reads_b writes_a writes_b once_a once_b load is_loaded read step same differs rise of_steps committed at not_refused cause_a cause_b =
     let made : (row : Row) → IsStepRow steps am a' bm b' row → IsMadeRow a a' b b' row =
     step_row_is_made steps a am a' b bm b' (Since-from_evolves reads_a) (Since-from_evolves writes_a) (Since-from_evolves reads_b) (Since-from_evolves writes_b) read.fetched_a read.fetched_b
     in
@@ -301,6 +304,8 @@ ran {a} {am} {a'} {b} {bm} {b'} {k} {km} {k'} steps before rows changed end done
         | inl all ↦ subst (λ (l : List Line). AllByRecursion (IsTrueLine a am b bm before rows) l) (sym all) (true_lines steps before rows a am b bm read done of_steps)
         | inr none ↦ no_lines_are_true (IsTrueLine a am b bm before rows) lines none.0
       ];
+      cause_a = cause_at A a a' lines done (lines_done end lines done at) cause_a;
+      cause_b = cause_at B b b' lines done (lines_done end lines done at) cause_b;
     }
 
 -- a job that stops before its rows are kept
@@ -334,6 +339,8 @@ stopped {a} {am} {a'} {b} {bm} {b'} {k} {km} steps before end lines reads_a read
       refused = λ refused. absurd (subst IsRefused is refused);
       lines_rise = no_lines_rise lines none;
       lines_are_true = no_lines_are_true (IsTrueLine a am b bm before before) lines none;
+      cause_a = no_lines_cause A a a' lines none;
+      cause_b = no_lines_cause B b b' lines none;
     }
 
 -- a job that failed to read

@@ -11,3 +11,4 @@ pub mod ReadLemmas
 pub mod Commits
 pub mod Twins
 pub mod StatusLaws
+pub mod LineCauses

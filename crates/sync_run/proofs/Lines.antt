@@ -15,7 +15,8 @@ use Rattle.sync_plan.specs.declared.report.Line.{Line}
 use Rattle.sync_run.specs.declared.planning.Step.{Step}
 use Rattle.sync_run.specs.declared.planning.Step.TheVariants.{CopyTo}
 use Rattle.sync_run.specs.declared.planning.Planned.{Planned}
-use Rattle.sync_run.specs.Steps.{rows_of, step_ident, step_idents, line_idents, copied_row, IsOther, IsOneIdent, IsPlanned, IsRowOf, IsWrittenTo, IsWhatOf, IsCopyLine, IsLineFor, IsStepLine, AnyIs}
+use Rattle.sync_run.specs.Reads.{AnyIs}
+use Rattle.sync_run.specs.Steps.{rows_of, step_ident, step_idents, line_idents, copied_row, IsOther, IsOneIdent, IsPlanned, IsRowOf, IsWrittenTo, IsWhatOf, IsCopyLine, IsLineFor, IsStepLine}
 use Rattle.sync_run.proofs.Order.{rising_push, falling_last, all_split}
 use Rattle.sync_run.proofs.Distinct.{or_row, row_of-append, no_row, own_row, precedes_differs, row_of_step}
 use Rattle.sync_run.proofs.Copies.{NoneToCome, any_right, idents_of_push, add_one}

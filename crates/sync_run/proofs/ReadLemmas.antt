@@ -1,13 +1,21 @@
 -- What a job's reading shows.
-use Rattle.std.proofs.Common.{◌≡◌, ◌⊎◌, inl, inr, ℕ, List, [], Ok, Err, refl, sym, ◌∙◌, ap, subst}
+use Rattle.std.proofs.Common.{◌≡◌, ◌⊎◌, inl, inr, ℕ, Bool, true, false, cond, List, [], ◌∷◌, ◌++◌, Some, map, Ok, Err, refl, sym, ◌∙◌, ap, subst}
 use Rattle.std.specs.FinMap as fin
+use Rattle.std.specs.FinMap.{get-entries, find}
+use Rattle.std.specs.Ordering.{nat_cmp, eq_by_cmp}
+use Rattle.std.specs.Cmp.Lexicographic.{slice_cmp}
+use Rattle.std.proofs.lemmas.Map.Text.{is_eq-slice_cmp}
+use Rattle.std.proofs.lemmas.Slice.Eq.{bytes_eq-Decides}
+use Rattle.std.proofs.lemmas.Bool.{false≢true}
+use Rattle.store_model.specs.declared.event.Held.{Held}
+use Rattle.store_model.specs.declared.store.Fetched.{Fetched}
 use Rattle.std.specs.declared.vec.Vec.{Vec}
 use Rattle.std.specs.declared.alloc.Global.{Global}
 use Rattle.store_model.specs.declared.store.Entry.{Entry}
 use Rattle.store_model.specs.declared.store.StoreError.{StoreError}
 use Rattle.store_model.specs.declared.store.StoreError.TheVariants as store
 use Rattle.store_model.specs.Sides.{Content, SideState, Since, Sometime}
-use Rattle.store_model.specs.StoreCalls.{IsListing, IsListed, HasFault, StoodOrListed, GetAnswer}
+use Rattle.store_model.specs.StoreCalls.{entry_of, IsListing, IsListed, HasFault, StoodOrListed, StopsAt, GetAnswer}
 use Rattle.store_model.proofs.Moments.{Evolves-refl, Evolves-trans, Sometime-extends, Sometime-weaker}
 use Rattle.status_keeper.specs.declared.row.Row.{Row}
 use Rattle.status_keeper.specs.Kept as status
@@ -18,23 +26,23 @@ use Rattle.sync_plan.specs.declared.report.Refusal.TheVariants.{SameLocation, St
 use Rattle.sync_plan.specs.declared.report.JobEnd.{JobEnd}
 use Rattle.sync_plan.specs.declared.report.JobEnd.TheVariants.{Synced, Refused, NotCommitted, NoMemory}
 use Rattle.sync_run.specs.Ends.{end_of, IsUnloaded}
-use Rattle.sync_run.specs.Reads.{IsTrueOfStatus, IsShown, IsStorageEnd, IsGotError}
+use Rattle.sync_run.specs.Reads.{IsTrueOfStatus, IsStanding, IsShown, IsToldAs, IsStorageEnd, AnyIs, IsGotError}
 use Rattle.sync_run.specs.Jobs.{IsTrueRefusal}
 
-storage_end : (side : Side) (Shown : StoreError → Type 0) (error : StoreError) → Shown error → IsStorageEnd side Shown (end_of side error)
+storage_end : (side : Side) (Shown : StoreError → Type 0) (error : StoreError) → Shown error → IsStorageEnd side (IsToldAs Shown) (end_of side error)
 storage_end side Shown store.NoMemory h = tt
-storage_end side Shown store.Fault h = λ e. h
-storage_end side Shown store.Moved h = λ e. h
-storage_end side Shown store.TooLong h = λ e. h
-storage_end side Shown store.TooMany h = λ e. h
-storage_end side Shown store.NotThere h = λ e. h
-storage_end side Shown (store.Vanished href) h = λ e. h
-storage_end side Shown (store.BadItem href error) h = λ e. h
+storage_end side Shown store.Fault h = λ e. ((λ same. cc), h)
+storage_end side Shown store.Moved h = λ e. ((λ same. cc), h)
+storage_end side Shown store.TooLong h = λ e. ((λ same. cc), h)
+storage_end side Shown store.TooMany h = λ e. ((λ same. cc), h)
+storage_end side Shown store.NotThere h = λ e. ((λ same. cc), h)
+storage_end side Shown (store.Vanished href) h = λ e. ((λ same. cc), h)
+storage_end side Shown (store.BadItem href error) h = λ e. ((λ same. cc), h)
 
-pub listed_end : (side : Side) (error : StoreError) (end : JobEnd) (recalls : Content → Type 0) (s t : SideState) → end ≡ end_of side error → Sometime (IsListed recalls (Err error)) s t → IsStorageEnd side (λ e. Sometime (IsListing (Err e)) s t) end
+pub listed_end : (side : Side) (error : StoreError) (end : JobEnd) (recalls : Content → Type 0) (s t : SideState) → end ≡ end_of side error → Sometime (IsListed recalls (Err error)) s t → IsStorageEnd side (IsToldAs (λ e. Sometime (IsListing (Err e)) s t)) end
 listed_end side error end recalls s t is sometime =
     let Shown : StoreError → Type 0 = λ e. Sometime (IsListing (Err e)) s t in
-    subst (λ (e : JobEnd). IsStorageEnd side Shown e) (sym is) (storage_end side Shown error (Sometime-weaker (λ m h. h) sometime))
+    subst (λ (e : JobEnd). IsStorageEnd side (IsToldAs Shown) e) (sym is) (storage_end side Shown error (Sometime-weaker (λ m h. h) sometime))
 
 pub IsStorageEnd-weaker : (side : Side) (P Q : StoreError → Type 0) → ((e : StoreError) → P e → Q e) → (end : JobEnd) → IsStorageEnd side P end → IsStorageEnd side Q end
 IsStorageEnd-weaker side P Q f (Refused (Storage at error)) h = λ same. f error (h same)
@@ -56,8 +64,30 @@ fault_at href store.Moved m n same h = h
 fault_at href store.TooMany m n same h = h
 fault_at href store.NotThere m n same h = h
 
-pub got_end : (side : Side) (end : JobEnd) (recalls : Content → Type 0) (s m t : SideState) (entries : Vec Entry Global) → Sometime (IsListed recalls (Ok entries)) s m → Since s m → Since m t → IsStorageEnd side (IsGotError recalls m t) end → IsStorageEnd side (IsShown s t) end
-got_end side end recalls s m t entries listed before after h = IsStorageEnd-weaker side (IsGotError recalls m t) (IsShown s t) at end h
+-- one of the listed hrefs is one at which something stands
+-- what is found at a key, by what is found behind the first entry
+found_at : (q : List ℕ) (e : List ℕ × Held) (es : List (List ℕ × Held)) → (e.0 ≡ q) ⊎ ((held : Held) × (find (slice_cmp nat_cmp) q es ≡ Some held)) → (held : Held) × (find (slice_cmp nat_cmp) q (e ∷ es) ≡ Some held)
+found_at q e es any = at (eq_by_cmp (slice_cmp nat_cmp) q e.0) refl
+  where
+    at : (b : Bool) → eq_by_cmp (slice_cmp nat_cmp) q e.0 ≡ b → (held : Held) × (find (slice_cmp nat_cmp) q (e ∷ es) ≡ Some held)
+    at true is = (e.1, ap (λ (b : Bool). cond b (Some e.1) (find (slice_cmp nat_cmp) q es)) is)
+    at false is = elim any [
+      | inl same ↦ absurd (false≢true (sym is ∙ (is_eq-slice_cmp q e.0 ∙ (bytes_eq-Decides q e.0).1 (sym same))))
+      | inr rest ↦ (rest.0, ap (λ (b : Bool). cond b (Some e.1) (find (slice_cmp nat_cmp) q es)) is ∙ rest.1)
+    ]
+
+any_stands : (q : List ℕ) (es : List (List ℕ × Held)) → AnyIs q (map (λ (e : Entry). e.href) (map entry_of es)) → (held : Held) × (find (slice_cmp nat_cmp) q es ≡ Some held)
+any_stands q [] any = elim any [ ]
+any_stands q (e ∷ es) (inl same) = found_at q e es (inl same)
+any_stands q (e ∷ es) (inr later) = found_at q e es (inr (any_stands q es later))
+
+stands : (q : List ℕ) (m : SideState) (entries : List Entry) → entries ≡ map entry_of (fin.entries m.content) → AnyIs q (map (λ (e : Entry). e.href) entries) → IsStanding q m
+stands q m entries is any =
+    let found = any_stands q (fin.entries m.content) (subst (λ (l : List Entry). AnyIs q (map (λ (e : Entry). e.href) l)) is any) in
+    (found.0, get-entries m.content q ∙ found.1)
+
+pub got_end : (side : Side) (end : JobEnd) (recalls : Content → Type 0) (s m t : SideState) (entries : Vec Entry Global) → Sometime (IsListed recalls (Ok entries)) s m → Since s m → Since m t → IsStorageEnd side (IsToldAs (IsGotError recalls m t (map (λ (e : Entry). e.href) entries.items))) end → IsStorageEnd side (IsShown s t) end
+got_end side end recalls s m t entries listed before after h = IsStorageEnd-weaker side (IsToldAs (IsGotError recalls m t (map (λ (e : Entry). e.href) entries.items))) (IsShown s t) at end h
   where
     by : (error : StoreError) (href : List ℕ) → StoodOrListed recalls (HasFault href error) m t → Sometime (HasFault href error) s t
     by error href (inl sometime) = Sometime-extends before sometime (Evolves-refl t)
@@ -69,11 +99,18 @@ got_end side end recalls s m t entries listed before after h = IsStorageEnd-weak
           was = fault_at href error n listed.moment (listed.was.1 n.content recalled) has;
         }
 
-    at : (error : StoreError) → IsGotError recalls m t error → IsShown s t error
-    at error got = inr (got.0, by error got.0 got.1)
+    at : (error : StoreError) → IsToldAs (IsGotError recalls m t (map (λ (e : Entry). e.href) entries.items)) error → IsShown s t error
+    at error got = record {
+      told = got.0;
+      why = inr (record {
+        href = got.1.href;
+        listed = record { moment = listed.moment; from = listed.from; until = Evolves-trans listed.until after; was = stands got.1.href listed.moment entries.items listed.was.0.1 got.1.asked };
+        fault = by error got.1.href got.1.fault;
+      });
+    }
 
-pub listing_end : (side : Side) (end : JobEnd) (s t : SideState) → IsStorageEnd side (λ e. Sometime (IsListing (Err e)) s t) end → IsStorageEnd side (IsShown s t) end
-listing_end side end s t h = IsStorageEnd-weaker side (λ e. Sometime (IsListing (Err e)) s t) (IsShown s t) (λ e was. inl was) end h
+pub listing_end : (side : Side) (end : JobEnd) (s t : SideState) → IsStorageEnd side (IsToldAs (λ e. Sometime (IsListing (Err e)) s t)) end → IsStorageEnd side (IsShown s t) end
+listing_end side end s t h = IsStorageEnd-weaker side (IsToldAs (λ e. Sometime (IsListing (Err e)) s t)) (IsShown s t) (λ e was. record { told = was.0; why = inl was.1 }) end h
 
 -- the rows that a job that failed to read had loaded
 pub read_rows : (m : status.KeeperState) (end : JobEnd) → IsTrueOfStatus m end → (before : List Row) × ((m.kept ≡ Ok before) ⊎ (IsUnloaded end × (before ≡ [])))
@@ -98,15 +135,22 @@ pub read_cause : (a am b bm : SideState) (m : status.KeeperState) (before : List
 read_cause a am b bm m before end h shown_a shown_b refusal is =
     read_refusal a am b bm m before refusal (subst (λ (e : JobEnd). IsTrueOfStatus m e) is h) (subst (λ (e : JobEnd). IsStorageEnd A (IsShown a am) e) is shown_a) (subst (λ (e : JobEnd). IsStorageEnd B (IsShown b bm) e) is shown_b)
 
-pub got_error : (side : Side) (error : StoreError) (end : JobEnd) (recalls : Content → Type 0) (s t : SideState) (hrefs : List (List ℕ)) → end ≡ end_of side error → GetAnswer recalls s t hrefs (Err error) → IsStorageEnd side (IsGotError recalls s t) end
-got_error side error end recalls s t hrefs is answer = subst (λ (e : JobEnd). IsStorageEnd side (IsGotError recalls s t) e) (sym is) (at error answer)
+any_middle : (xs ys : List (List ℕ)) (x : List ℕ) → AnyIs x (xs ++ x ∷ ys)
+any_middle [] ys x = inl refl
+any_middle (z ∷ xs) ys x = inr (any_middle xs ys x)
+
+stopped_asked : (recalls : Content → Type 0) (s t : SideState) (hrefs : List (List ℕ)) (error : StoreError) → StopsAt recalls s t hrefs error → IsGotError recalls s t hrefs error
+stopped_asked recalls s t hrefs error stops = record { href = stops.href; asked = subst (λ (l : List (List ℕ)). AnyIs stops.href l) (sym stops.asked) (any_middle (map (λ (f : Fetched). f.href) stops.given) stops.rest stops.href); fault = stops.fault }
+
+pub got_error : (side : Side) (error : StoreError) (end : JobEnd) (recalls : Content → Type 0) (s t : SideState) (hrefs asked : List (List ℕ)) → hrefs ≡ asked → end ≡ end_of side error → GetAnswer recalls s t hrefs (Err error) → IsStorageEnd side (IsToldAs (IsGotError recalls s t asked)) end
+got_error side error end recalls s t hrefs asked same is answer = subst (λ (l : List (List ℕ)). IsStorageEnd side (IsToldAs (IsGotError recalls s t l)) end) same (subst (λ (e : JobEnd). IsStorageEnd side (IsToldAs (IsGotError recalls s t hrefs)) e) (sym is) (at error answer))
   where
-    at : (e : StoreError) → GetAnswer recalls s t hrefs (Err e) → IsStorageEnd side (IsGotError recalls s t) (end_of side e)
+    at : (e : StoreError) → GetAnswer recalls s t hrefs (Err e) → IsStorageEnd side (IsToldAs (IsGotError recalls s t hrefs)) (end_of side e)
     at store.NoMemory h = tt
-    at store.Fault h = λ same. (h.href, h.fault)
-    at store.Moved h = λ same. (h.href, h.fault)
-    at store.TooLong h = λ same. (h.href, h.fault)
-    at store.TooMany h = λ same. (h.href, h.fault)
-    at store.NotThere h = λ same. (h.href, h.fault)
-    at (store.Vanished href) h = λ same. (h.href, h.fault)
-    at (store.BadItem href error) h = λ same. (h.href, h.fault)
+    at store.Fault h = storage_end side (IsGotError recalls s t hrefs) store.Fault (stopped_asked recalls s t hrefs store.Fault h)
+    at store.Moved h = storage_end side (IsGotError recalls s t hrefs) store.Moved (stopped_asked recalls s t hrefs store.Moved h)
+    at store.TooLong h = storage_end side (IsGotError recalls s t hrefs) store.TooLong (stopped_asked recalls s t hrefs store.TooLong h)
+    at store.TooMany h = storage_end side (IsGotError recalls s t hrefs) store.TooMany (stopped_asked recalls s t hrefs store.TooMany h)
+    at store.NotThere h = storage_end side (IsGotError recalls s t hrefs) store.NotThere (stopped_asked recalls s t hrefs store.NotThere h)
+    at (store.Vanished href) h = storage_end side (IsGotError recalls s t hrefs) (store.Vanished href) (stopped_asked recalls s t hrefs (store.Vanished href) h)
+    at (store.BadItem href error) h = storage_end side (IsGotError recalls s t hrefs) (store.BadItem href error) (stopped_asked recalls s t hrefs (store.BadItem href error) h)

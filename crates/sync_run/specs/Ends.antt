@@ -1,5 +1,5 @@
 -- How a job ends, and which ends have a cause.
-use Rattle.std.specs.Prelude.{◌≡◌, List, [], Option, Some, None}
+use Rattle.std.specs.Prelude.{◌≡◌, ◌≤◌, ◌+◌, ◌-◌, ◌^◌, ℕ, min, List, [], ◌∷◌, Option, Some, None}
 use Rattle.store_model.specs.declared.store.StoreError.{StoreError}
 use Rattle.store_model.specs.declared.store.StoreError.TheVariants as store
 use Rattle.status_keeper.specs.declared.keeper.KeeperError.{KeeperError}
@@ -17,6 +17,11 @@ use Rattle.sync_plan.specs.declared.report.JobEnd.TheVariants.{Synced, Refused, 
 abbrev pub end_of : Side → StoreError → JobEnd
 end_of side store.NoMemory = NoMemory
 end_of side error = Refused (Storage side error)
+
+-- the end of a job whose status answers this error to its load
+abbrev pub unloaded_end : KeeperError → JobEnd
+unloaded_end keeper.NoMemory = NoMemory
+unloaded_end error = Refused (Status error)
 
 -- the end of a job whose commit answers this error
 abbrev pub uncommitted_end : KeeperError → JobEnd
@@ -101,3 +106,65 @@ LinesAt Synced lines done = lines ≡ done
 LinesAt (NotCommitted error) lines done = lines ≡ done
 LinesAt (Refused refusal) lines done = lines ≡ []
 LinesAt NoMemory lines done = lines ≡ []
+
+-- 1 where two sides are the same, and else 0
+abbrev pub same_side : Side → Side → ℕ
+same_side A A = 1
+same_side A B = 0
+same_side B A = 0
+same_side B B = 1
+
+-- 1 where an error of this side is a fault of that one, and else 0
+abbrev pub fault_of : Side → Side → StoreError → ℕ
+fault_of side at store.Fault = same_side side at
+fault_of side at error = 0
+
+abbrev pub fault_in : Side → What → ℕ
+fault_in side (NotWritten at error) = fault_of side at error
+
+abbrev pub line_in : Side → What → ℕ
+line_in side (NotWritten at error) = same_side side at
+
+-- how many of the lines tell a fault of the side
+abbrev pub fault_lines : Side → List Line → ℕ
+fault_lines side [] = 0
+fault_lines side (line ∷ lines) = fault_in side line.what + fault_lines side lines
+
+-- how many of the lines tell of a write to the side
+abbrev pub lines_of : Side → List Line → ℕ
+lines_of side [] = 0
+lines_of side (line ∷ lines) = line_in side line.what + lines_of side lines
+
+-- 1 where the end tells a fault of the side, and else 0
+abbrev pub end_fault : Side → JobEnd → ℕ
+end_fault side (Refused (Storage at error)) = fault_of side at error
+end_fault side (Refused (Status error)) = 0
+end_fault side (Refused SameLocation) = 0
+end_fault side (Refused (SameIdent at ident first second)) = 0
+end_fault side (Refused (NotBuilt ident)) = 0
+end_fault side (NotCommitted error) = 0
+end_fault side Synced = 0
+end_fault side NoMemory = 0
+
+abbrev pub keeper_fault : KeeperError → ℕ
+keeper_fault keeper.Fault = 1
+keeper_fault error = 0
+
+-- 1 where the end tells a fault of the status, and else 0
+abbrev pub status_fault : JobEnd → ℕ
+status_fault (Refused (Status error)) = keeper_fault error
+status_fault (Refused (Storage at error)) = 0
+status_fault (Refused SameLocation) = 0
+status_fault (Refused (SameIdent at ident first second)) = 0
+status_fault (Refused (NotBuilt ident)) = 0
+status_fault (NotCommitted error) = keeper_fault error
+status_fault Synced = 0
+status_fault NoMemory = 0
+
+-- how many faults of the side a report tells
+abbrev pub faults_told : Side → JobEnd → List Line → ℕ
+faults_told side end lines = end_fault side end + fault_lines side lines
+
+-- the count has risen by so many at least, or it stands at the last value of a u64
+abbrev pub RoseBy : ℕ → ℕ → ℕ → Type 0
+RoseBy before n now = min (before + n) (2 ^ 64 - 1) ≤ now

@@ -21,7 +21,7 @@ use Rattle.sync_plan.specs.declared.report.JobEnd.{JobEnd}
 use Rattle.sync_plan.specs.declared.report.JobEnd.TheVariants.{Synced, Refused, NotCommitted, NoMemory}
 use Rattle.sync_run.specs.Ends.{IsFullEnd, IsRefused, IsUnloaded}
 use Rattle.sync_run.specs.Reads.{IsTrueLoad, IsShown}
-use Rattle.sync_run.specs.Steps.{HasLine, IsOther, IsVouched, HoldsItem, line_idents}
+use Rattle.sync_run.specs.Steps.{HasLine, IsOther, IsVouched, HoldsItem, line_idents, HasCause}
 
 -- what the run saw before it copied this text from the other side: an item that stood there and was read, an ident that this side lacked, and no row of this version
 pub record IsDue (own own_read other other_read : SideState) (before : List Row) (sent : List ℕ) : Type 0 where
@@ -133,6 +133,9 @@ pub record JobRun (a a' b b' : SideState) (k k' : status.KeeperState) (end : Job
   pub refused : IsRefused end → (a' ≡ read_a) × (b' ≡ read_b) × (lines ≡ [])
   pub lines_rise : IsRising (line_idents lines)
   pub lines_are_true : AllByRecursion (IsTrueLine a read_a b read_b before after) lines
+  -- without an edit from outside and a fault no write to a side fails
+  pub cause_a : HasCause A a a' lines
+  pub cause_b : HasCause B b b' lines
 
 -- the side holds an item of this ident and version
 pub record Holds (ident version : List ℕ) (m : SideState) : Type 0 where

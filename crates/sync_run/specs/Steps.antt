@@ -11,7 +11,10 @@ use Rattle.store_model.specs.declared.event.StoreEvent.{StoreEvent}
 use Rattle.store_model.specs.declared.event.StoreEvent.TheVariants.{Edited, Toggled, Wrote, Read}
 use Rattle.store_model.specs.declared.store.Fetched.{Fetched}
 use Rattle.store_model.specs.declared.store.Put.{Put}
-use Rattle.store_model.specs.Sides.{SideState, Evolves, Sometime, HoldsAt, IsNotWriteOf, WritesOne}
+use Rattle.store_model.specs.declared.store.StoreError.{StoreError}
+use Rattle.store_model.specs.declared.store.StoreError.TheVariants as store
+use Rattle.store_model.specs.StoreCalls.{IsKnown}
+use Rattle.store_model.specs.Sides.{SideState, Evolves, Sometime, HoldsAt, WasEdited, IsNotWriteOf, WritesOne}
 use Rattle.status_keeper.specs.Idents.{Precedes, IsRising}
 use Rattle.status_keeper.specs.Rows.{row_of, row_idents}
 use Rattle.status_keeper.specs.declared.row.Row.{Row}
@@ -23,7 +26,10 @@ use Rattle.sync_plan.specs.declared.report.JobEnd.{JobEnd}
 use Rattle.sync_plan.specs.declared.report.JobEnd.TheVariants.{Synced, Refused, NotCommitted, NoMemory}
 use Rattle.sync_plan.specs.declared.report.What.{What}
 use Rattle.sync_plan.specs.declared.report.What.TheVariants.{NotWritten}
+use Rattle.sync_run.specs.Ends.{fault_lines, lines_of}
+use Rattle.sync_run.specs.declared.copying.Done.{Done}
 use Rattle.sync_run.specs.declared.planning.Cell.{Cell}
+use Rattle.sync_run.specs.Reads.{AnyIs}
 use Rattle.sync_run.specs.declared.planning.Which.{Which}
 use Rattle.sync_run.specs.declared.planning.Step.{Step}
 use Rattle.sync_run.specs.declared.planning.Step.TheVariants.{Keep, CopyTo}
@@ -199,10 +205,6 @@ IsCopiedRow side from s t old line new = ((new ≡ old) × IsLineOf from.item.id
 abbrev pub IsDoneRow : Planned → SideState → SideState → SideState → SideState → Option Line → Option Row → Type 0
 IsDoneRow p a a' b b' line new = ((new ≡ p.row) × IsLineOf (step_ident p.step) line) ⊎ ((row : Row) × (new ≡ Some row) × IsStepRow (p ∷ []) a a' b b' row × (row.ident ≡ step_ident p.step))
 
-abbrev pub AnyIs : List ℕ → List (List ℕ) → Type 0
-AnyIs ident [] = ⊥
-AnyIs ident (x ∷ xs) = (x ≡ ident) ⊎ AnyIs ident xs
-
 abbrev pub HasLine : List ℕ → List Line → Type 0
 HasLine ident [] = ⊥
 HasLine ident (line ∷ lines) = (line.ident ≡ ident) ⊎ HasLine ident lines
@@ -307,3 +309,20 @@ NamesUnbuilt cell (Refused SameLocation) = ⊥
 NamesUnbuilt cell NoMemory = Unit {0}
 NamesUnbuilt cell Synced = ⊥
 NamesUnbuilt cell (NotCommitted error) = ⊥
+
+-- what a copy leaves whose write answered an error
+abbrev pub unwritten : List ℕ → Side → StoreError → Option Row → Done
+unwritten ident side error row = record { row = row; line = Some (record { ident = ident; what = NotWritten side error }); changed = false }
+
+-- a want of memory leaves nothing: it ends the job
+abbrev pub uncopied : List ℕ → Side → StoreError → Option Row → Option Done
+uncopied ident side store.NoMemory row = None
+uncopied ident side error row = Some (unwritten ident side error row)
+
+-- what the lines say of a side that was known as s, and is t now: an edit from outside came, or a fault is among them, or there are none and it is known still
+abbrev pub IsKnownBy : Side → SideState → (List ℕ → Bool) → SideState → List Line → Type 0
+IsKnownBy side s taken t lines = WasEdited s t ⊎ (0 < fault_lines side lines) ⊎ (IsKnown taken t × (lines_of side lines ≡ 0))
+
+-- a side has lines only where an edit from outside came or a fault is among them
+abbrev pub HasCause : Side → SideState → SideState → List Line → Type 0
+HasCause side s t lines = WasEdited s t ⊎ (0 < fault_lines side lines) ⊎ (lines_of side lines ≡ 0)

@@ -3,13 +3,13 @@
 ghost use Rattle.std.specs.Prelude.{false, true, Some, None, ℕ, List, ◌≡◌, ◌≢◌, ◌⊎◌, ◌≤◌, ◌∷◌, [], ◌++◌, IfOk, IfErr, OnOk, All, option_to_list, IsTrue, ◌↔◌};
 ghost use Rattle.std.specs.List.{AllByRecursion};
 ghost use Rattle.outside.specs.Causes.{Rose};
-ghost use Rattle.store_model.specs.StoreCalls.{StoreCause, Changes, IsReady, IsPutOf, PutAnswer, PutsAtMostOnce};
+ghost use Rattle.store_model.specs.StoreCalls.{StoreCause, Changes, IsReady, IsKnown, KnownAfterPut, IsPutOf, PutAnswer, PutsAtMostOnce};
 ghost use Rattle.store_model.specs.Sides.{WritesAtMostOne};
 ghost use Rattle.item_text.specs.Items.{item_of};
 ghost use Rattle.status_keeper.specs.Idents.{IsRising, IsFalling};
-ghost use Rattle.sync_run.specs.Ends.{Never, IsCausedWhat, IsLineOfSide, IsCausedLine};
+ghost use Rattle.sync_run.specs.Ends.{Never, IsCausedWhat, IsLineOfSide, IsCausedLine, fault_lines, RoseBy};
 ghost use Rattle.status_keeper.specs.Rows.{RowStep, row_idents};
-ghost use Rattle.sync_run.specs.Steps.{rows_of, kept_row, copied_row, IsPlanned, IsStepRow, IsStepWrite, IsCopiedRow, IsDoneRow, IsExcused, IsOther, IsCopyLine, IsLineFor, IsStepLine, line_idents, StepWritesOnce, step_ident, step_idents, IsRowOf};
+ghost use Rattle.sync_run.specs.Steps.{rows_of, kept_row, copied_row, IsPlanned, IsStepRow, IsStepWrite, IsCopiedRow, IsDoneRow, IsExcused, IsOther, IsCopyLine, IsLineFor, IsStepLine, line_idents, StepWritesOnce, step_ident, step_idents, IsRowOf, uncopied, IsKnownBy, HasCause};
 
 use crate::planning::{Planned, Step};
 use item_text::Item;
@@ -139,6 +139,23 @@ fn keep(alloc: Global, a: Fetched, b: Fetched, row: Option<Row>) -> Result<Done,
     })
 }
 
+/// What a copy leaves whose write answered an error; `None` for a want of memory, which ends the job.
+fn uncopied(ident: Text, side: Side, error: StoreError, row: Option<Row>) -> Option<Done>
+    ensures { result ≡ uncopied ident side error row }
+{
+    match error {
+        StoreError::NoMemory => None,
+        error => Some(Done {
+            row,
+            line: Some(Line {
+                ident,
+                what: What::NotWritten { side, error },
+            }),
+            changed: false,
+        }),
+    }
+}
+
 /// Puts an item where nothing stands, in a store whose writes don't wait.
 fn put<S: Store>(store: &mut S, item: &Item) -> Result<Put, StoreError>
     requires { IsReady S.waits S.is_listed store.old }
@@ -147,6 +164,7 @@ fn put<S: Store>(store: &mut S, item: &Item) -> Result<Put, StoreError>
     ensures answer { S.tells store.old → PutAnswer (S.side store.old) (S.side store.new) item.now result }
     ensures ready { IsReady S.waits S.is_listed store.new }
     ensures same { S.setting store.new ≡ S.setting store.old }
+    ensures known { S.tells store.old → IsKnown (S.taken store.old) (S.side store.old) → KnownAfterPut (S.side store.old) (S.taken store.new) (S.side store.new) result }
 {
     store.put_new(item)
 }
@@ -171,6 +189,8 @@ fn copy_to<S: Store>(
     ensures left { IfOk result (λ done. IsCopyLine side from.item.ident row done.line done.row) }
     ensures of_ident { IsRowOf from.item.ident row → IfOk result (λ done. IsRowOf from.item.ident done.row) }
     ensures line { IfOk result (λ done. IsLineOfSide side (StoreCause (Rose (S.count store.old) (S.count store.new))) done.line) }
+    ensures faults { IfOk result (λ done. RoseBy (S.count store.old) (fault_lines side (option_to_list done.line)) (S.count store.new)) }
+    ensures known { S.tells store.old → IsKnown (S.taken store.old) (S.side store.old) → IfOk result (λ done. IsKnownBy side (S.side store.old) (S.taken store.new) (S.side store.new) (option_to_list done.line)) }
 {
     let ident = Text::copy_of(alloc, from.item.ident())?;
     match put(store, &from.item) {
@@ -179,15 +199,10 @@ fn copy_to<S: Store>(
             line: None,
             changed: true,
         }),
-        Err(StoreError::NoMemory) => Err(AllocError),
-        Err(error) => Ok(Done {
-            row,
-            line: Some(Line {
-                ident,
-                what: What::NotWritten { side, error },
-            }),
-            changed: false,
-        }),
+        Err(error) => match uncopied(ident, side, error, row) {
+            Some(done) => Ok(done),
+            None => Err(AllocError),
+        },
     }
 }
 
@@ -215,6 +230,10 @@ fn run_step<A: Store, B: Store>(
     ensures left { IfOk result (λ done. IsLineFor planned done.line done.row) }
     ensures of_ident { IfOk result (λ done. IsRowOf (step_ident planned.step) done.row) }
     ensures line { IfOk result (λ done. IsCausedLine (StoreCause (Rose (A.count a.old) (A.count a.new))) (StoreCause (Rose (B.count b.old) (B.count b.new))) done.line) }
+    ensures faults_a { IfOk result (λ done. RoseBy (A.count a.old) (fault_lines Side.A (option_to_list done.line)) (A.count a.new)) }
+    ensures faults_b { IfOk result (λ done. RoseBy (B.count b.old) (fault_lines Side.B (option_to_list done.line)) (B.count b.new)) }
+    ensures known_a { A.tells a.old → IsKnown (A.taken a.old) (A.side a.old) → IfOk result (λ done. IsKnownBy Side.A (A.side a.old) (A.taken a.new) (A.side a.new) (option_to_list done.line)) }
+    ensures known_b { B.tells b.old → IsKnown (B.taken b.old) (B.side b.old) → IfOk result (λ done. IsKnownBy Side.B (B.side b.old) (B.taken b.new) (B.side b.new) (option_to_list done.line)) }
 {
     let Planned { row, step } = planned;
     match step {
@@ -259,6 +278,10 @@ pub fn run_steps<A: Store, B: Store>(
     ensures lines_rise { IfOk result (λ o. IsRising (line_idents o.lines.items)) }
     ensures lines_of_steps { IfOk result (λ o. AllByRecursion (IsStepLine steps.items o.rows.items) o.lines.items) }
     ensures lines { IfOk result (λ o. All (λ line. IsCausedWhat (StoreCause (Rose (A.count a.old) (A.count a.new))) (StoreCause (Rose (B.count b.old) (B.count b.new))) line.what) o.lines.items) }
+    ensures faults_a { IfOk result (λ o. RoseBy (A.count a.old) (fault_lines Side.A o.lines.items) (A.count a.new)) }
+    ensures faults_b { IfOk result (λ o. RoseBy (B.count b.old) (fault_lines Side.B o.lines.items) (B.count b.new)) }
+    ensures cause_a { A.tells a.old → IsKnown (A.taken a.old) (A.side a.old) → IfOk result (λ o. HasCause Side.A (A.side a.old) (A.side a.new) o.lines.items) }
+    ensures cause_b { B.tells b.old → IsKnown (B.taken b.old) (B.side b.old) → IfOk result (λ o. HasCause Side.B (B.side b.old) (B.side b.new) o.lines.items) }
 {
     let mut steps = steps;
     let mut outcome = Outcome {

@@ -3,7 +3,8 @@
 ghost use Rattle.std.specs.Prelude.{true, false, ◌≡◌, ◌≤◌, [], All};
 ghost use Rattle.outside.specs.Causes.{Rose};
 ghost use Rattle.outside.specs.Runs.{Anything};
-ghost use Rattle.sync_run.specs.Ends.{Never, IsCausedEnd, IsCausedWhat, IsRefused, LinesAt, uncommitted_end};
+ghost use Rattle.sync_run.specs.Ends.{Never, IsCausedEnd, IsCausedWhat, IsRefused, LinesAt, uncommitted_end, faults_told, status_fault, RoseBy};
+ghost use Rattle.sync_plan.specs.declared.report.Side.{Side};
 ghost use Rattle.status_keeper.specs.Idents.{IsRising};
 ghost use Rattle.status_keeper.specs.Rows.{row_idents};
 ghost use Rattle.status_keeper.specs.Kept.{IsCommitOf, KeeperCause};
@@ -86,6 +87,11 @@ pub fn sync_collection<A: Store, B: Store, K: Keeper>(
     ensures job { A.tells a.old → B.tells b.old → K.tells keeper.old → JobRun (A.side a.old) (A.side a.new) (B.side b.old) (B.side b.new) (K.state keeper.old) (K.state keeper.new) result.end result.lines.items }
     ensures end { IsCausedEnd (StoreCause (Rose (A.count a.old) (A.count a.new))) (StoreCause (Rose (B.count b.old) (B.count b.new))) (KeeperCause (Rose (K.count keeper.old) (K.count keeper.new))) result.end }
     ensures lines { All (λ line. IsCausedWhat (StoreCause (Rose (A.count a.old) (A.count a.new))) (StoreCause (Rose (B.count b.old) (B.count b.new))) line.what) result.lines.items }
+
+    // A report tells at most as many faults of a device as its count rose.
+    ensures faults_a { RoseBy (A.count a.old) (faults_told Side.A result.end result.lines.items) (A.count a.new) }
+    ensures faults_b { RoseBy (B.count b.old) (faults_told Side.B result.end result.lines.items) (B.count b.new) }
+    ensures faults_k { RoseBy (K.count keeper.old) (status_fault result.end) (K.count keeper.new) }
 
     // The counts don't fall, and what was told stays told, whatever the others tell.
     ensures later_a { A.count a.old ≤ A.count a.new }

@@ -1,12 +1,12 @@
 //! What a job reads before it writes.
 
-ghost use Rattle.std.specs.Prelude.{◌≡◌, ◌≢◌, ◌≤◌, ℕ, List, map, Ok, Err, IfOk, IfErr, OnOk, true, false};
+ghost use Rattle.std.specs.Prelude.{◌≡◌, ◌≢◌, ◌⊎◌, ◌≤◌, ℕ, List, map, Ok, Err, IfOk, IfErr, OnOk, true, false};
 ghost use Rattle.std.specs.List.{AllByRecursion};
 ghost use Rattle.outside.specs.Causes.{Rose};
-ghost use Rattle.store_model.specs.Sides.{IsNoWrite, Sometime, Lacks};
-ghost use Rattle.store_model.specs.StoreCalls.{StoreCause, Changes, Keeps, IsReady, IsListing, IsListed, WasFetched, WasGot};
-ghost use Rattle.sync_run.specs.Ends.{Never, end_of, IsCausedEnd, IsEarlyEnd, IsEndOfSide, IsUnloaded};
-ghost use Rattle.sync_run.specs.Reads.{IsTrueOfStatus, IsStorageEnd, IsShown, IsGotError};
+ghost use Rattle.store_model.specs.Sides.{IsNoWrite, Sometime, Lacks, WasEdited};
+ghost use Rattle.store_model.specs.StoreCalls.{StoreCause, Changes, Keeps, IsReady, IsListing, IsListed, IsKnown, WasFetched, WasGot};
+ghost use Rattle.sync_run.specs.Ends.{Never, end_of, unloaded_end, IsCausedEnd, IsEarlyEnd, IsEndOfSide, IsUnloaded};
+ghost use Rattle.sync_run.specs.Reads.{IsTrueOfStatus, IsStorageEnd, IsShown, IsToldAs, IsGotError};
 ghost use Rattle.status_keeper.specs.Idents.{IsRising};
 ghost use Rattle.status_keeper.specs.Rows.{row_idents};
 ghost use Rattle.status_keeper.specs.Kept.{IsEdit, KeeperCause, Changes as KeeperChanges};
@@ -36,6 +36,17 @@ fn refusal(side: Side, error: StoreError) -> JobEnd
     }
 }
 
+/// The end of a job whose status answers this error to its load.
+fn unloaded(error: KeeperError) -> JobEnd
+    ensures is { result ≡ unloaded_end error }
+    ensures early { IsEarlyEnd result }
+{
+    match error {
+        KeeperError::NoMemory => JobEnd::NoMemory,
+        error => JobEnd::Refused(Refusal::Status(error)),
+    }
+}
+
 fn load<K: Keeper>(keeper: &mut K) -> Result<Vec<Row>, JobEnd>
     ensures keeper { KeeperChanges K.count K.tells K.state IsEdit keeper.old keeper.new }
     ensures rows { K.tells keeper.old → IfOk result (λ rows. (K.state keeper.new).kept ≡ Ok rows.items) }
@@ -48,8 +59,7 @@ fn load<K: Keeper>(keeper: &mut K) -> Result<Vec<Row>, JobEnd>
 {
     match keeper.load() {
         Ok(rows) => Ok(rows),
-        Err(KeeperError::NoMemory) => Err(JobEnd::NoMemory),
-        Err(error) => Err(JobEnd::Refused(Refusal::Status(error))),
+        Err(error) => Err(unloaded(error)),
     }
 }
 
@@ -58,10 +68,11 @@ fn list_side<S: Store>(store: &mut S, side: Side) -> Result<Vec<Entry>, JobEnd>
     ensures listed { S.tells store.old → IfOk result (λ entries. Sometime (IsListed (S.recalls store.new) (Ok entries)) (S.side store.old) (S.side store.new)) }
     ensures early { IfErr result IsEarlyEnd }
     ensures end { IfErr result (IsEndOfSide side (StoreCause (Rose (S.count store.old) (S.count store.new)))) }
-    ensures shown { S.tells store.old → IfErr result (IsStorageEnd side (λ e. Sometime (IsListing (Err e)) (S.side store.old) (S.side store.new))) }
+    ensures shown { S.tells store.old → IfErr result (IsStorageEnd side (IsToldAs (λ e. Sometime (IsListing (Err e)) (S.side store.old) (S.side store.new)))) }
     ensures kept { Keeps S.waits S.is_listed store.old store.new }
     ensures same { S.setting store.new ≡ S.setting store.old }
     ensures ready { OnOk result (S.is_listed store.new ≡ true) }
+    ensures known { S.tells store.old → OnOk result (WasEdited (S.side store.old) (S.side store.new) ⊎ IsKnown (S.taken store.new) (S.side store.new)) }
 {
     match store.list() {
         Ok(entries) => Ok(entries),
@@ -88,9 +99,10 @@ fn get_side<S: Store>(
     ensures found { S.tells store.old → IfOk result (λ found. AllByRecursion (WasGot (S.recalls store.old) (S.side store.old) (S.side store.new)) found.items) }
     ensures early { IfErr result IsEarlyEnd }
     ensures end { IfErr result (IsEndOfSide side (StoreCause (Rose (S.count store.old) (S.count store.new)))) }
-    ensures shown { S.tells store.old → IfErr result (IsStorageEnd side (IsGotError (S.recalls store.old) (S.side store.old) (S.side store.new))) }
+    ensures shown { S.tells store.old → IfErr result (IsStorageEnd side (IsToldAs (IsGotError (S.recalls store.old) (S.side store.old) (S.side store.new) (map (λ e. e.href) entries.items)))) }
     ensures kept { Keeps S.waits S.is_listed store.old store.new }
     ensures same { S.setting store.new ≡ S.setting store.old }
+    ensures taken { (q : List ℕ) → S.taken store.new q ≡ S.taken store.old q }
 {
     let Ok(hrefs) = hrefs_of(alloc, entries) else {
         return Err(refusal(side, StoreError::NoMemory));
@@ -124,6 +136,8 @@ pub fn read_job<A: Store, B: Store, K: Keeper>(
     ensures ordered { IfOk result (λ r. IsRising (row_idents r.rows.items)) }
     ensures ready_a { OnOk result (IsReady A.waits A.is_listed a.new) }
     ensures ready_b { OnOk result (IsReady B.waits B.is_listed b.new) }
+    ensures known_a { A.tells a.old → OnOk result (WasEdited (A.side a.old) (A.side a.new) ⊎ IsKnown (A.taken a.new) (A.side a.new)) }
+    ensures known_b { B.tells b.old → OnOk result (WasEdited (B.side b.old) (B.side b.new) ⊎ IsKnown (B.taken b.new) (B.side b.new)) }
     ensures same_a { A.setting a.new ≡ A.setting a.old }
     ensures same_b { B.setting b.new ≡ B.setting b.old }
     ensures shown_a { A.tells a.old → IfErr result (IsStorageEnd Side.A (IsShown (A.side a.old) (A.side a.new))) }

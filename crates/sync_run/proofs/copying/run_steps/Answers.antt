@@ -1,4 +1,4 @@
-use Rattle.std.proofs.Common.{◌≡◌, ◌∙◌, ◌++◌, ◌∷◌, None, inl, inr, refl, [], All, Contains, List, sym, subst, arith}
+use Rattle.std.proofs.Common.{◌≡◌, ◌∙◌, ◌++◌, ◌∷◌, None, inl, inr, refl, [], All, Contains, List, sym, subst, ap, arith}
 use Rattle.std.proofs.lemmas.List.Elements.{All-nil, All-pop, All-contains, recursion_from_All, Contains-push}
 use Rattle.outside.specs.Causes.{Rose}
 use Rattle.store_model.specs.StoreCalls.{StoreCause}
@@ -7,7 +7,8 @@ use Rattle.sync_plan.specs.declared.report.Side.TheVariants.{A, B}
 use Rattle.status_keeper.specs.declared.row.Row.{Row}
 use Rattle.sync_plan.specs.declared.report.Line.{Line}
 use Rattle.status_keeper.specs.Rows.{row_of, RowStep}
-use Rattle.sync_run.specs.Ends.{IsCausedWhat}
+use Rattle.sync_run.specs.Ends.{IsCausedWhat, fault_lines, lines_of, RoseBy}
+use Rattle.sync_run.proofs.LineCauses.{rose_more, known_more, known_has_cause}
 use Rattle.sync_run.specs.declared.planning.Planned.{Planned}
 use Rattle.sync_run.specs.Steps.{IsStepRow, rows_of, step_ident, step_idents, IsPlanned, IsStepLine, line_idents}
 use Rattle.status_keeper.specs.Idents.{IsFalling}
@@ -72,6 +73,14 @@ loop-planned-preserved g c =
           rows_more all xs ys p _ _ _ _ _ _ c.loop-planned.outcome.rows.items c.add.new.self.rows.items c.loop-planned.outcome.lines.items c.add.new.self.lines.items c.in_ok-done.done.row c.in_ok-done.done.line c.in-Some.ensures.items one here inv.none
           (Since-from_changes inv.a a) (Since-from_changes c.run_step.ensures.a mid_a) (Since-from_changes inv.b b) (Since-from_changes c.run_step.ensures.b mid_b)
           (inv.rows a b) (c.in_ok-done.ensures.row mid_a mid_b) c.in_ok-add.ensures.rows c.in_ok-add.ensures.lines;
+      faults_a = rose_more A c.loop-planned.outcome.lines.items c.add.new.self.lines.items c.in_ok-done.done.line _ _ _ c.in_ok-add.ensures.lines inv.faults_a c.in_ok-done.ensures.faults_a;
+      faults_b = rose_more B c.loop-planned.outcome.lines.items c.add.new.self.lines.items c.in_ok-done.done.line _ _ _ c.in_ok-add.ensures.lines inv.faults_b c.in_ok-done.ensures.faults_b;
+      known_a = λ told known.
+          let mid = (inv.a.told told).0 in
+          known_more A _ _ _ (g.A.Store.taken c.loop-planned.a) _ c.loop-planned.outcome.lines.items c.add.new.self.lines.items c.in_ok-done.done.line c.in_ok-add.ensures.lines (Since-from_changes inv.a told) (Since-from_changes c.run_step.ensures.a mid) (inv.known_a told known) (c.in_ok-done.ensures.known_a mid);
+      known_b = λ told known.
+          let mid = (inv.b.told told).0 in
+          known_more B _ _ _ (g.B.Store.taken c.loop-planned.b) _ c.loop-planned.outcome.lines.items c.add.new.self.lines.items c.in_ok-done.done.line c.in_ok-add.ensures.lines (Since-from_changes inv.b told) (Since-from_changes c.run_step.ensures.b mid) (inv.known_b told known) (c.in_ok-done.ensures.known_b mid);
       lines =
           lines_more _ _ _ _ _ _ c.loop-planned.outcome.lines.items c.add.new.self.lines.items c.in_ok-done.done.line
           (λ e. cause_extends _ _ _ _ e (omega arith) c.run_step.ensures.a.later) (λ e. cause_extends _ _ _ _ e (omega arith) c.run_step.ensures.b.later)
@@ -124,6 +133,10 @@ loop-planned-init g c =
           let s = g.A.Store.side c.args.a.now in
           let t = g.B.Store.side c.args.b.now in
           subst (λ (l : List Row). RowStep (IsStepRow all s s t t) (KeptSoFar all all c.new-2.result.items) (rows_of all) (l ++ rows_of all)) (sym c.new.ensures.items) (kept_first all c.new-2.result.items);
+      faults_a = subst (λ (l : List Line). RoseBy (g.A.Store.count c.args.a.now) (fault_lines A l) (g.A.Store.count c.args.a.now)) (sym c.new-2.ensures.items) (omega arith);
+      faults_b = subst (λ (l : List Line). RoseBy (g.B.Store.count c.args.b.now) (fault_lines B l) (g.B.Store.count c.args.b.now)) (sym c.new-2.ensures.items) (omega arith);
+      known_a = λ told known. inr (inr (known, ap (lines_of A) c.new-2.ensures.items));
+      known_b = λ told known. inr (inr (known, ap (lines_of B) c.new-2.ensures.items));
       lines = subst (λ (l : List Line). All (λ line. IsCausedWhat (StoreCause (Rose (g.A.Store.count c.args.a.now) (g.A.Store.count c.args.a.now))) (StoreCause (Rose (g.B.Store.count c.args.b.now) (g.B.Store.count c.args.b.now))) line.what) l) (sym c.new-2.ensures.items) (All-nil (λ (line : Line). IsCausedWhat (StoreCause (Rose (g.A.Store.count c.args.a.now) (g.A.Store.count c.args.a.now))) (StoreCause (Rose (g.B.Store.count c.args.b.now) (g.B.Store.count c.args.b.now))) line.what));
     }
 
@@ -135,3 +148,15 @@ returns-clause-lines_rise g c = c.loop-planned.invariant.lines_rise.rising
 
 pub returns-clause-lines_of_steps : goal.returns-clause-lines_of_steps
 returns-clause-lines_of_steps g c = c.loop-planned.invariant.lines_of
+
+pub returns-clause-faults_a : goal.returns-clause-faults_a
+returns-clause-faults_a g c = c.loop-planned.invariant.faults_a
+
+pub returns-clause-faults_b : goal.returns-clause-faults_b
+returns-clause-faults_b g c = c.loop-planned.invariant.faults_b
+
+pub returns-clause-cause_a : goal.returns-clause-cause_a
+returns-clause-cause_a g c told known = known_has_cause A _ _ (g.A.Store.taken c.loop-planned.a) c.loop-planned.outcome.lines.items (c.loop-planned.invariant.known_a told known)
+
+pub returns-clause-cause_b : goal.returns-clause-cause_b
+returns-clause-cause_b g c told known = known_has_cause B _ _ (g.B.Store.taken c.loop-planned.b) c.loop-planned.outcome.lines.items (c.loop-planned.invariant.known_b told known)

@@ -5,9 +5,10 @@ use Rattle.std.proofs.lemmas.List.Elements.{recursion_from_All}
 use Rattle.outside.proofs.Runs.{ChangesBy-trans, ChangesBy-weaker}
 use Rattle.store_model.specs.StoreCalls.{WasFetched}
 use Rattle.store_model.proofs.Lacks.{no_write_is_adding}
-use Rattle.store_model.proofs.Moments.{Changes-trans, Changes-weaker}
+use Rattle.store_model.proofs.Moments.{Changes-trans, Changes-weaker, Since-from_evolves}
 use Rattle.sync_plan.specs.declared.report.Side.TheVariants.{A, B}
 use Rattle.sync_run.specs.Steps.{on_a, on_b, IsPlanned, IsStepRow, IsExcused}
+use Rattle.sync_run.proofs.LineCauses.{whole_cause}
 use Rattle.sync_run.proofs.Glue.{of_list, read_failed, plan_failed, ran, stopped, step_write_is_adding}
 use Rattle.sync_run.proofs.job.sync_collection.Goals as goal
 
@@ -54,6 +55,8 @@ returns-in-Ok-run_steps-clause-job g c a b k =
     (λ changed same. c.in-Ok-run_steps.ensures.differs changed (same ∙ sym c.in-Ok-plan.ensures.rows))
     c.in-Ok-run_steps.ensures.lines_rise c.in-Ok-run_steps.ensures.lines_of_steps
     (c.commit.ensures.committed at_k.0) c.commit.ensures.lines c.commit.ensures.not_refused
+    (whole_cause A _ _ _ (g.A.Store.taken c.read_job.new.a) outcome.lines.items (c.in-Ok.ensures.known_a a) (Since-from_evolves at_a.1) (Since-from_evolves end_a.1) (c.in-Ok-run_steps.ensures.cause_a at_a.0))
+    (whole_cause B _ _ _ (g.B.Store.taken c.read_job.new.b) outcome.lines.items (c.in-Ok.ensures.known_b b) (Since-from_evolves at_b.1) (Since-from_evolves end_b.1) (c.in-Ok-run_steps.ensures.cause_b at_b.0))
 
 pub returns-in-Err-run_steps-clause-job : goal.returns-in-Err-run_steps-clause-job
 returns-in-Err-run_steps-clause-job g c a b k =

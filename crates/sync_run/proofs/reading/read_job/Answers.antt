@@ -1,3 +1,4 @@
+use Rattle.store_model.proofs.Known.{read_known}
 use Rattle.store_model.proofs.Moments.{Changes-trans, Since-from_evolves, Evolves-refl, Evolves-trans, all_fetched_extends, all_got_fetched}
 use Rattle.store_model.proofs.Lacks.{Evolves-rest, unread_is_lacked}
 use Rattle.sync_plan.specs.declared.report.Side.TheVariants.{A, B}
@@ -69,3 +70,13 @@ returns-in_err-found_b-clause-shown_b g c told =
     let end = c.get_side-2.ensures.store.told mid.0 in
     let p = err_from_is_err_and c.from_residual-in_err-found_b.result c.from_residual-in_err-found_b.ensures.1 in
     rw (p.1, p.2) (got_end B c.in_err-found_b.field-0.0 (g.B.Store.recalls c.list_side-2.new.store) (g.B.Store.side c.args.b.now) (g.B.Store.side c.list_side-2.new.store) (g.B.Store.side c.get_side-2.new.store) c.in_ok-entries_b.entries_b (c.in_ok-entries_b.ensures.listed told) (Since-from_evolves mid.1) (Since-from_evolves end.1) (c.in_err-found_b.ensures.shown mid.0))
+
+pub returns-clause-known_a : goal.returns-clause-known_a
+returns-clause-known_a g c told =
+    let mid = c.list_side.ensures.store.told told in
+    read_known (g.A.Store.taken c.list_side.new.store) (g.A.Store.taken c.get_side.new.store) _ _ _ (c.get_side.ensures.store.told mid.0).1 c.get_side.ensures.taken (c.in_ok-entries_a.ensures.known told) (Since-from_evolves mid.1)
+
+pub returns-clause-known_b : goal.returns-clause-known_b
+returns-clause-known_b g c told =
+    let mid = c.list_side-2.ensures.store.told told in
+    read_known (g.B.Store.taken c.list_side-2.new.store) (g.B.Store.taken c.get_side-2.new.store) _ _ _ (c.get_side-2.ensures.store.told mid.0).1 c.get_side-2.ensures.taken (c.in_ok-entries_b.ensures.known told) (Since-from_evolves mid.1)
