@@ -1,12 +1,13 @@
 //! What a keeper's calls do with its folder.
 
-ghost use Rattle.std.specs.Prelude.{◌≡◌, ◌≤◌, length, Some, IfOk, IfErr, OnOk, OnErr};
+ghost use Rattle.std.specs.Prelude.{◌≡◌, ◌≤◌, length, Some, Err, IfOk, IfErr, OnOk, OnErr};
 ghost use Rattle.outside.specs.Causes.{Rose};
 ghost use Rattle.outside.specs.Etag.{etag};
 ghost use Rattle.outside.specs.FolderCalls as folder_calls;
 ghost use Rattle.outside.specs.FolderCalls.{meets};
+ghost use Rattle.status_keeper.specs.declared.keeper.KeeperError.TheVariants.{Moved as is_moved};
 ghost use Rattle.status_keeper.specs.Idents.{IsRising};
-ghost use Rattle.status_keeper.specs.Kept.{AfterEdits, KeeperCause, LoadAnswer, CommitAnswer};
+ghost use Rattle.status_keeper.specs.KeeperCalls.{AfterEdits, WasEdited, KeeperCause, LoadAnswer, CommitAnswer};
 ghost use Rattle.status_keeper.specs.Rows.{row_idents};
 ghost use Rattle.status_keeper.specs.Status.{max_status, text_of, kept_text};
 ghost use Rattle.status_keeper.specs.FileStatus.{status_file, state_of, etag_in, is_as_found, AfterMaking, PutAnswer, refusal_of, moved_of};
@@ -100,6 +101,7 @@ fn put_file<F: Folder>(folder: &mut F, found: &Option<Text>, text: &[u8]) -> Res
     ensures told { F.tells folder.old → F.tells folder.new }
     ensures cause { IfErr result (KeeperCause (Rose (F.count folder.old) (F.count folder.new))) }
     ensures answer { F.tells folder.old → AfterMaking (F.state folder.old) (λ m. PutAnswer m (F.state folder.new) (is_as_found found.now m) text.now result) }
+    ensures moved { F.tells folder.old → found.now ≡ etag_in (F.state folder.old) → result ≡ Err is_moved → WasEdited (state_of (F.state folder.old)) (state_of (F.state folder.new)) }
 {
     match found {
         Some(tag) => replace_file(folder, Expect::Etag(tag.as_str()), text),
@@ -124,6 +126,8 @@ pub(crate) fn commit_rows<F: Folder>(
     ensures put { F.tells folder.old → AfterMaking (F.state folder.old) (λ m. PutAnswer m (F.state folder.new) (is_as_found found.old m) (text_of rows.now) result) }
     ensures answer { F.tells folder.old → AfterEdits (state_of (F.state folder.old)) (λ m. CommitAnswer m (state_of (F.state folder.new)) rows.now result) }
     ensures fits { OnOk result (length (text_of rows.now) ≤ max_status) }
+    ensures moved { F.tells folder.old → found.old ≡ etag_in (F.state folder.old) → result ≡ Err is_moved → WasEdited (state_of (F.state folder.old)) (state_of (F.state folder.new)) }
+    ensures current { F.tells folder.old → OnOk result (found.new ≡ etag_in (F.state folder.new)) }
     ensures found { OnOk result (found.new ≡ Some (etag (text_of rows.now))) }
     ensures kept { OnErr result (found.new ≡ found.old) }
 {

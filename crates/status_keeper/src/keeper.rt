@@ -1,6 +1,6 @@
 //! The keeper of a status.
 
-ghost use Rattle.std.specs.Prelude.{map, true, IfOk, IfErr, OnOk, ◌≡◌, ℕ, Bool};
+ghost use Rattle.std.specs.Prelude.{map, true, IfOk, IfErr, OnOk, Err, ◌≡◌, ℕ, Bool};
 ghost use Rattle.outside.specs.Causes.{Rose};
 ghost use Rattle.status_keeper.specs.Idents.{IsRising};
 
@@ -28,7 +28,9 @@ pub enum KeeperError {
 
 /// Keeps the rows of a job between its runs.
 pub trait Keeper {
-    ghost use Rattle.status_keeper.specs.Kept.{KeeperState, AfterEdits, Changes, IsEdit, IsCommitOf, KeeperCause, LoadAnswer, CommitAnswer};
+    ghost use Rattle.status_keeper.specs.declared.keeper.KeeperError.TheVariants.{Moved};
+    ghost use Rattle.status_keeper.specs.Kept.{KeeperState, Changes, IsEdit, IsCommitOf};
+    ghost use Rattle.status_keeper.specs.KeeperCalls.{AfterEdits, WasEdited, KeeperCause, LoadAnswer, CommitAnswer};
 
     /// The count of faults.
     ghost count: { Self → ℕ };
@@ -42,6 +44,10 @@ pub trait Keeper {
     /// `load` has answered Ok.
     ghost is_loaded: { Self → Bool };
 
+    /// The status is as it was loaded or last committed. From there `commit` answers `Moved` only after an edit from
+    /// outside that came within the call.
+    ghost is_current: { Self → Type 0 };
+
     fn faults(&self) -> u64
         ensures { result ≡ count self.now };
 
@@ -51,6 +57,7 @@ pub trait Keeper {
         ensures cause { IfErr result (KeeperCause (Rose (count self.old) (count self.new))) }
         ensures rising { IfOk result (λ rows. IsRising (map (λ r. r.ident) rows.items)) }
         ensures loaded { OnOk result (is_loaded self.new ≡ true) }
+        ensures current { tells self.old → OnOk result (is_current self.new) }
         ensures answer { tells self.old → AfterEdits (state self.old) (λ m. LoadAnswer m (state self.new) result) };
 
     /// Keeps these rows in place of those that were loaded.
@@ -59,5 +66,8 @@ pub trait Keeper {
         requires rising { IsRising (map (λ r. r.ident) rows.now) }
         ensures changes { Changes count tells state (IsCommitOf rows.now) self.old self.new }
         ensures cause { IfErr result (KeeperCause (Rose (count self.old) (count self.new))) }
+        ensures kept { is_loaded self.new ≡ is_loaded self.old }
+        ensures current { tells self.old → OnOk result (is_current self.new) }
+        ensures moved { tells self.old → is_current self.old → result ≡ Err Moved → WasEdited (state self.old) (state self.new) }
         ensures answer { tells self.old → AfterEdits (state self.old) (λ m. CommitAnswer m (state self.new) rows.now result) };
 }
