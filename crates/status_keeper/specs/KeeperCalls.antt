@@ -45,3 +45,19 @@ KeeperCause rose Moved = Unit {0}
 KeeperCause rose (Damaged k) = Unit {0}
 KeeperCause rose TooLong = Unit {0}
 KeeperCause rose NoMemory = Unit {0}
+
+-- a load never answers `Moved`
+abbrev pub IsOfLoad : KeeperError → Type 0
+IsOfLoad Fault = Unit {0}
+IsOfLoad Moved = ⊥
+IsOfLoad (Damaged k) = Unit {0}
+IsOfLoad TooLong = Unit {0}
+IsOfLoad NoMemory = Unit {0}
+
+-- a commit never answers `Damaged`
+abbrev pub IsOfCommit : KeeperError → Type 0
+IsOfCommit Fault = Unit {0}
+IsOfCommit Moved = Unit {0}
+IsOfCommit (Damaged k) = ⊥
+IsOfCommit TooLong = Unit {0}
+IsOfCommit NoMemory = Unit {0}

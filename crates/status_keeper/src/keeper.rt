@@ -1,6 +1,6 @@
 //! The keeper of a status.
 
-ghost use Rattle.std.specs.Prelude.{map, true, IfOk, IfErr, OnOk, Err, ◌≡◌, ℕ, Bool};
+ghost use Rattle.std.specs.Prelude.{map, true, IfOk, IfErr, OnOk, Result, Err, List, ◌≡◌, ℕ, Bool};
 ghost use Rattle.outside.specs.Causes.{Rose};
 ghost use Rattle.status_keeper.specs.Idents.{IsRising};
 
@@ -28,9 +28,11 @@ pub enum KeeperError {
 
 /// Keeps the rows of a job between its runs.
 pub trait Keeper {
+    ghost use Rattle.status_keeper.specs.declared.row.Row.{Row};
+    ghost use Rattle.status_keeper.specs.declared.keeper.KeeperError.{KeeperError};
     ghost use Rattle.status_keeper.specs.declared.keeper.KeeperError.TheVariants.{Moved};
     ghost use Rattle.status_keeper.specs.Kept.{KeeperState, Changes, IsEdit, IsCommitOf};
-    ghost use Rattle.status_keeper.specs.KeeperCalls.{AfterEdits, WasEdited, KeeperCause, LoadAnswer, CommitAnswer};
+    ghost use Rattle.status_keeper.specs.KeeperCalls.{AfterEdits, WasEdited, KeeperCause, LoadAnswer, CommitAnswer, IsOfLoad, IsOfCommit};
 
     /// The count of faults.
     ghost count: { Self → ℕ };
@@ -48,6 +50,9 @@ pub trait Keeper {
     /// outside that came within the call.
     ghost is_current: { Self → Type 0 };
 
+    /// What a commit did to what the keeper stands on, exactly.
+    ghost commits: { Self → Self → List Row → Result (Unit {0}) KeeperError → Type 0 };
+
     fn faults(&self) -> u64
         ensures { result ≡ count self.now };
 
@@ -55,6 +60,7 @@ pub trait Keeper {
     fn load(&mut self) -> Result<Vec<Row>, KeeperError>
         ensures changes { Changes count tells state IsEdit self.old self.new }
         ensures cause { IfErr result (KeeperCause (Rose (count self.old) (count self.new))) }
+        ensures refusal { IfErr result IsOfLoad }
         ensures rising { IfOk result (λ rows. IsRising (map (λ r. r.ident) rows.items)) }
         ensures loaded { OnOk result (is_loaded self.new ≡ true) }
         ensures current { tells self.old → OnOk result (is_current self.new) }
@@ -66,8 +72,10 @@ pub trait Keeper {
         requires rising { IsRising (map (λ r. r.ident) rows.now) }
         ensures changes { Changes count tells state (IsCommitOf rows.now) self.old self.new }
         ensures cause { IfErr result (KeeperCause (Rose (count self.old) (count self.new))) }
+        ensures refusal { IfErr result IsOfCommit }
         ensures kept { is_loaded self.new ≡ is_loaded self.old }
         ensures current { tells self.old → OnOk result (is_current self.new) }
         ensures moved { tells self.old → is_current self.old → result ≡ Err Moved → WasEdited (state self.old) (state self.new) }
+        ensures exact { commits self.old self.new rows.now result }
         ensures answer { tells self.old → AfterEdits (state self.old) (λ m. CommitAnswer m (state self.new) rows.now result) };
 }
