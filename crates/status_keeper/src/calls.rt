@@ -141,12 +141,12 @@ pub(crate) fn commit_rows<F: Folder>(
     if text.len() as u64 > MAX_STATUS {
         return Err(KeeperError::TooLong);
     }
-    let Ok(tag) = etag_of(alloc, text.as_slice()) else {
+    let Ok(written) = etag_of(alloc, text.as_slice()) else {
         return Err(KeeperError::NoMemory);
     };
     match put_file(folder, found, text.as_slice()) {
         Ok(()) => {
-            *found = Some(tag);
+            *found = Some(written);
             Ok(())
         }
         Err(error) => Err(error),
