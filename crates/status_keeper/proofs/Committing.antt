@@ -1,13 +1,11 @@
 -- Each answer of the folder, as an answer of the keeper.
-use Rattle.std.proofs.Common.{◌≡◌, ◌⊎◌, ℕ, ◌<◌, ◌≤◌, Bool, true, false, cond, List, [], ◌∷◌, length, Option, Some, None, Result, Ok, Err, refl, sym, ap, ◌∙◌, subst, inl, inr, arith}
+use Rattle.std.proofs.Common.{◌≡◌, ℕ, ◌<◌, ◌≤◌, Bool, true, false, List, [], length, Option, Some, None, Result, Ok, Err, refl, sym, ap, ◌∙◌, subst, inl, inr, arith}
 use Rattle.std.specs.Prelude.{if◌then◌else◌, nat_lt}
 use Rattle.std.specs.Option.{option_map}
 use Rattle.std.specs.FinMap as fin
-use Rattle.std.specs.Str.{bytes_eq}
 use Rattle.std.specs.declared.vec.Vec.{Vec}
 use Rattle.std.specs.declared.alloc.Global.{Global}
 use Rattle.outside.specs.Etag.{etag}
-use Rattle.outside.specs.Runs.{after, ChangesBy}
 use Rattle.outside.proofs.Runs.{Runs-refl, Runs-trans, Runs-weaker, Runs-one}
 use Rattle.outside.proofs.FolderLemmas.{outside_is_making}
 use Rattle.outside.specs.Files as folders
@@ -19,14 +17,14 @@ use Rattle.outside.specs.declared.folder.Change.{Change}
 use Rattle.outside.specs.declared.folder.Change.TheVariants as change
 use Rattle.outside.specs.declared.folder.FolderError.{FolderError}
 use Rattle.outside.specs.declared.folder.FolderError.TheVariants as folder_error
-use Rattle.outside.specs.declared.folder.FolderEvent.TheVariants as folder_event
 use Rattle.status_keeper.specs.declared.row.Row.{Row}
 use Rattle.status_keeper.specs.declared.keeper.KeeperError.{KeeperError}
 use Rattle.status_keeper.specs.declared.keeper.KeeperError.TheVariants.{Fault, Moved, Damaged, TooLong, NoMemory}
-use Rattle.status_keeper.specs.Kept.{Kept, KeeperEvent, Edited, Committed, KeeperState, happens, IsTrueEvent, Evolves, IsEdit, IsCommitOf, Changes, AfterEdits, LoadAnswer, CommitAnswer, KeeperCause}
+use Rattle.status_keeper.specs.Kept.{Kept, KeeperEvent, Edited, Committed, KeeperState, happens, Evolves, IsEdit, IsCommitOf}
+use Rattle.status_keeper.specs.KeeperCalls.{AfterEdits, LoadAnswer, CommitAnswer, KeeperCause}
 use Rattle.status_keeper.specs.Reading.{Gives}
-use Rattle.status_keeper.specs.Status.{max_status, kept_of, kept_text}
-use Rattle.status_keeper.specs.FileStatus.{status_file, written, event_of, state_of, etag_in, is_as_found, AfterMaking, PutAnswer, refusal_of, moved_of, replaced_of}
+use Rattle.status_keeper.specs.Status.{max_status, text_of, kept_of, kept_text}
+use Rattle.status_keeper.specs.FileStatus.{status_file, written, state_of, etag_in, is_as_found, AfterMaking, PutAnswer, refusal_of, replaced_of}
 use Rattle.status_keeper.proofs.Lifting.{wrote_step, read_step, making_seen, outside_seen}
 
 -- ---- the meaning of a file
@@ -153,17 +151,18 @@ committed m t text rows means same =
     ∙ wrote_step m status_file (fin.get m.files status_file) (Some text)
     ∙ ap (λ kept. happens (state_of m) (written kept)) means
 
-commit_at : (m t : FolderState) (met : Bool) (text : List ℕ) (rows : List Row) (result : Result (Unit {0}) KeeperError) → kept_of (Some text) ≡ Ok rows → PutAnswer m t met text result → CommitAnswer (state_of m) (state_of t) rows result
-commit_at m t met text rows (Ok u) means h = committed m t text rows means h.1
-commit_at m t met text rows (Err Moved) means h = ap state_of h.1
-commit_at m t met text rows (Err Fault) means h = elim h [ inl same ↦ inl (ap state_of same) | inr acted ↦ inr (committed m t text rows means acted.1) ]
-commit_at m t met text rows (Err NoMemory) means h = ap state_of h
-commit_at m t met text rows (Err TooLong) means h = ap state_of h.0
-commit_at m t met text rows (Err (Damaged k)) means h = absurd h
+commit_at : (m t : FolderState) (met : Bool) (rows : List Row) (result : Result (Unit {0}) KeeperError) → kept_of (Some (text_of rows)) ≡ Ok rows → PutAnswer m t met (text_of rows) result → CommitAnswer (state_of m) (state_of t) rows result
+commit_at m t met rows (Ok u) means h = committed m t (text_of rows) rows means h.1
+commit_at m t met rows (Err Moved) means h = ap state_of h.1
+commit_at m t met rows (Err Fault) means h = elim h [ inl same ↦ inl (ap state_of same) | inr acted ↦ inr (committed m t (text_of rows) rows means acted.1) ]
+commit_at m t met rows (Err NoMemory) means h = ap state_of h
+commit_at m t met rows (Err TooLong) means h = (ap state_of h.0, h.1)
+commit_at m t met rows (Err (Damaged k)) means h = absurd h
 
-pub commit_answer : (s t : FolderState) (met : FolderState → Bool) (text : List ℕ) (rows : List Row) (result : Result (Unit {0}) KeeperError) → length text ≤ max_status → kept_text text ≡ Ok rows → AfterMaking s (λ m. PutAnswer m t (met m) text result) → AfterEdits (state_of s) (λ m. CommitAnswer m (state_of t) rows result)
-commit_answer s t met text rows result fits means h =
-    record { moment = state_of h.moment; edits = making_seen s h.moment h.makes; does = commit_at h.moment t (met h.moment) text rows result (kept_of-within text fits ∙ means) h.does }
+-- of another name for the text
+pub commit_answer : (s t : FolderState) (met : FolderState → Bool) (text : List ℕ) (rows : List Row) (result : Result (Unit {0}) KeeperError) → text ≡ text_of rows → length text ≤ max_status → kept_text text ≡ Ok rows → AfterMaking s (λ m. PutAnswer m t (met m) (text_of rows) result) → AfterEdits (state_of s) (λ m. CommitAnswer m (state_of t) rows result)
+commit_answer s t met text rows result same fits means h =
+    record { moment = state_of h.moment; edits = making_seen s h.moment h.makes; does = commit_at h.moment t (met h.moment) rows result (ap (λ (x : List ℕ). kept_of (Some x)) (sym same) ∙ kept_of-within text fits ∙ means) h.does }
 
 -- a call that does nothing
 pub nothing_put : (s : FolderState) (met : FolderState → Bool) (text : List ℕ) → AfterMaking s (λ m. PutAnswer m s (met m) text (Err NoMemory))
@@ -175,8 +174,8 @@ nothing_put_long s met text long = record { moment = s; makes = Runs-refl s; doe
 pub nothing_kept : (s : KeeperState) (rows : List Row) → AfterEdits s (λ m. CommitAnswer m s rows (Err NoMemory))
 nothing_kept s rows = record { moment = s; edits = Runs-refl s; does = refl }
 
-pub nothing_kept_long : (s : KeeperState) (rows : List Row) → AfterEdits s (λ m. CommitAnswer m s rows (Err TooLong))
-nothing_kept_long s rows = record { moment = s; edits = Runs-refl s; does = refl }
+pub nothing_kept_long : (s : KeeperState) (rows : List Row) → max_status < length (text_of rows) → AfterEdits s (λ m. CommitAnswer m s rows (Err TooLong))
+nothing_kept_long s rows long = record { moment = s; edits = Runs-refl s; does = (refl, long) }
 
 -- ---- the runs of the calls
 
@@ -205,7 +204,7 @@ committed_at : (s m t : KeeperState) (rows : List Row) (result : Result (Unit {0
 committed_at s m t rows (Ok u) run h = one_commit s m t rows run h
 committed_at s m t rows (Err Fault) run h = elim h [ inl same ↦ along s m t run same | inr acted ↦ one_commit s m t rows run acted ]
 committed_at s m t rows (Err Moved) run h = along s m t run h
-committed_at s m t rows (Err TooLong) run h = along s m t run h
+committed_at s m t rows (Err TooLong) run h = along s m t run h.0
 committed_at s m t rows (Err NoMemory) run h = along s m t run h
 committed_at s m t rows (Err (Damaged k)) run h = absurd h
 

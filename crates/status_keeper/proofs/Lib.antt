@@ -1,5 +1,6 @@
 mod Committing
 mod Lifting
+mod Moving
 mod ReadBack
 mod Rising
 mod Texts

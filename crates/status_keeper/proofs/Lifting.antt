@@ -1,5 +1,5 @@
 -- What happens to the folder happens to the status.
-use Rattle.std.proofs.Common.{◌≡◌, ℕ, Bool, true, false, cond, not, List, [], ◌∷◌, ◌++◌, Option, Some, None, Ok, Err, refl, sym, ap, ◌∙◌, subst, append-nil}
+use Rattle.std.proofs.Common.{◌≡◌, ℕ, Bool, true, false, cond, List, [], ◌∷◌, ◌++◌, Option, Some, None, Ok, Err, refl, sym, ap, ◌∙◌, append-nil}
 use Rattle.std.specs.Prelude.{if◌then◌else◌}
 use Rattle.std.specs.List.{filter_map}
 use Rattle.std.specs.FinMap as fin
@@ -17,7 +17,7 @@ use Rattle.outside.specs.Files as folders
 use Rattle.outside.specs.Files.{Files, FolderState, put_file}
 use Rattle.outside.specs.declared.folder.FolderEvent.{FolderEvent}
 use Rattle.outside.specs.declared.folder.FolderEvent.TheVariants as folder_event
-use Rattle.status_keeper.specs.Kept.{Kept, KeeperEvent, Edited, Committed, KeeperState, kept_after, happens, IsTrueEvent, Evolves, IsEdit}
+use Rattle.status_keeper.specs.Kept.{Kept, KeeperEvent, Edited, kept_after, happens, IsTrueEvent, Evolves, IsEdit}
 use Rattle.status_keeper.specs.Status.{kept_of}
 use Rattle.status_keeper.specs.FileStatus.{status_file, written, event_of, state_of}
 

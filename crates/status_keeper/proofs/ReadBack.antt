@@ -1,11 +1,9 @@
 -- What the parts of a status read as.
-use Rattle.std.proofs.Common.{◌≡◌, ℕ, ◌+◌, ◌<◌, ◌≤◌, Bool, true, false, cond, List, [], ◌∷◌, ◌++◌, map, length, Option, Some, None, Result, Ok, Err, String, Global, string_bytes, refl, sym, ap, ◌∙◌, subst, arith}
-use Rattle.std.specs.Prelude.{if◌then◌else◌}
+use Rattle.std.proofs.Common.{◌≡◌, ℕ, ◌<◌, true, false, cond, List, [], ◌∷◌, ◌++◌, length, Option, Some, None, Ok, Err, String, Global, string_bytes, refl, sym, ap, ◌∙◌, arith}
 use Rattle.std.specs.List.{AllByRecursion}
-use Rattle.std.specs.Str.{IsUtf8, is_utf8, bytes_eq}
+use Rattle.std.specs.Str.{IsUtf8, is_utf8}
 use Rattle.std.proofs.lemmas.Str.{is_utf8-from_IsUtf8, IsUtf8-from_is_utf8}
-use Rattle.hex.specs.Hex.{encode_lower, decode_sized}
-use Rattle.serde_json.specs.Data.{Data, null, string, array, object, Items, Members}
+use Rattle.serde_json.specs.Data.{Data, array, object, Members}
 use Rattle.serde_json.specs.Read.{read}
 use Rattle.serde_json.specs.View.{view, items_view, members_view}
 use Rattle.serde_json.specs.declared.value.Value.{Value}
@@ -14,7 +12,7 @@ use Rattle.status_keeper.specs.declared.keeper.KeeperError.{KeeperError}
 use Rattle.status_keeper.specs.declared.keeper.KeeperError.TheVariants.{Damaged}
 use Rattle.status_keeper.specs.Kept.{Kept}
 use Rattle.status_keeper.specs.Reading.{FpReads}
-use Rattle.status_keeper.specs.Status.{null_or, row_data, rows_data, status_data, fp_at, text_at, row_of_parts, row_from, status_rows, row_or_bad, next_number, with_row, rows_from, kept_members, kept_data, kept_text}
+use Rattle.status_keeper.specs.Status.{null_or, row_data, rows_data, status_data, text_at, row_from, status_rows, row_or_bad, next_number, with_row, rows_from, kept_members, kept_data, kept_text}
 
 -- a row has five parts
 pub not_five : (ident : List ℕ) (vs : List Value) → (length vs ≡ 5 → ⊥) → row_from ident (array (items_view vs)) ≡ None

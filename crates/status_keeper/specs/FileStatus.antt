@@ -1,5 +1,5 @@
 -- A folder seen as a keeper: the status is its file `items`, and what happens to the file happens to the status (this project's own).
-use Rattle.std.specs.Prelude.{◌≡◌, ◌<◌, ◌⊎◌, ◌&&◌, ℕ, Bool, true, false, is_none, List, [], ◌∷◌, codes, length, Option, Some, None, Result, Ok, Err, if◌then◌else◌}
+use Rattle.std.specs.Prelude.{◌≡◌, ◌<◌, ◌≤◌, ◌⊎◌, ◌&&◌, ℕ, Bool, true, false, is_none, List, codes, length, Option, Some, None, Result, Ok, Err, if◌then◌else◌}
 use Rattle.std.specs.Option.{option_map}
 use Rattle.std.specs.List.{filter_map}
 use Rattle.std.specs.Str.{bytes_eq}
@@ -14,10 +14,11 @@ use Rattle.outside.specs.declared.folder.FolderError.{FolderError}
 use Rattle.outside.specs.declared.folder.FolderError.TheVariants as folder_error
 use Rattle.outside.specs.declared.folder.Change.{Change}
 use Rattle.outside.specs.declared.folder.Change.TheVariants as change
+use Rattle.status_keeper.specs.declared.row.Row.{Row}
 use Rattle.status_keeper.specs.declared.keeper.KeeperError.{KeeperError}
 use Rattle.status_keeper.specs.declared.keeper.KeeperError.TheVariants.{Fault, Moved, Damaged, TooLong, NoMemory}
 use Rattle.status_keeper.specs.Kept.{Kept, KeeperEvent, Edited, Committed, KeeperState}
-use Rattle.status_keeper.specs.Status.{max_status, kept_of}
+use Rattle.status_keeper.specs.Status.{max_status, text_of, kept_of}
 
 -- the name of the file
 abbrev pub status_file : List ℕ
@@ -63,6 +64,20 @@ PutAnswer m t met text (Err Fault) = (t ≡ m) ⊎ ((met ≡ true) × (t ≡ wro
 PutAnswer m t met text (Err NoMemory) = t ≡ m
 PutAnswer m t met text (Err TooLong) = (t ≡ m) × (max_status < length text)
 PutAnswer m t met text (Err (Damaged k)) = ⊥
+
+-- rows whose text passes the limit are neither written nor compared with what stands
+abbrev pub IsWithin : List Row → Result (Unit {0}) KeeperError → Type 0
+IsWithin rows (Ok u) = length (text_of rows) ≤ max_status
+IsWithin rows (Err Moved) = length (text_of rows) ≤ max_status
+IsWithin rows (Err Fault) = Unit {0}
+IsWithin rows (Err TooLong) = Unit {0}
+IsWithin rows (Err NoMemory) = Unit {0}
+IsWithin rows (Err (Damaged k)) = Unit {0}
+
+-- a commit of these rows to the file: their text is written exactly where it is within the limit and the file is as it was found
+pub record CommitsTo (told : Type 0) (s t : FolderState) (found : Option (List ℕ)) (rows : List Row) (result : Result (Unit {0}) KeeperError) : Type 0 where
+  pub within : IsWithin rows result
+  pub puts : told → AfterMaking s (λ m. PutAnswer m t (is_as_found found m) (text_of rows) result)
 
 -- a folder's refusal, as a keeper's
 abbrev pub refusal_of : FolderError → KeeperError

@@ -1,11 +1,8 @@
--- What a keeper keeps, and what its calls do (this project's own).
-use Rattle.std.specs.Prelude.{◌≡◌, ℕ, List, [], ◌∷◌, ◌++◌, ◌⊎◌, Result, Ok, Err}
-use Rattle.std.specs.declared.vec.Vec.{Vec}
-use Rattle.std.specs.declared.alloc.Global.{Global}
+-- What a keeper keeps, and what happens to it (this project's own).
+use Rattle.std.specs.Prelude.{◌≡◌, ℕ, List, [], ◌∷◌, ◌++◌, Result, Ok}
 use Rattle.outside.specs.Runs.{Runs, ChangesBy}
 use Rattle.status_keeper.specs.declared.row.Row.{Row}
 use Rattle.status_keeper.specs.declared.keeper.KeeperError.{KeeperError}
-use Rattle.status_keeper.specs.declared.keeper.KeeperError.TheVariants.{Fault, Moved, Damaged, TooLong, NoMemory}
 
 -- what a load meets: rows, or the refusal `Damaged` or `TooLong`
 abbrev pub Kept : Type 0
@@ -54,34 +51,3 @@ IsOwn (Committed rows) = Unit {0}
 -- a keeper changed by events of this kind alone, where it tells its state; its count of faults doesn't fall
 abbrev pub Changes : {X : Type 0} → (X → ℕ) → (X → Type 0) → (X → KeeperState) → (KeeperEvent → Type 0) → X → X → Type 0
 Changes count tells state Kind old new = ChangesBy happens IsTrueEvent count tells state Kind old new
-
--- first edits from outside, and then what the call does
-pub record AfterEdits (s : KeeperState) (Does : KeeperState → Type 0) : Type 0 where
-  pub moment : KeeperState
-  pub edits : Evolves IsEdit s moment
-  pub does : Does moment
-
-abbrev pub LoadAnswer : KeeperState → KeeperState → Result (Vec Row Global) KeeperError → Type 0
-LoadAnswer m t (Ok rows) = (t ≡ m) × (m.kept ≡ Ok rows.items)
-LoadAnswer m t (Err (Damaged k)) = (t ≡ m) × (m.kept ≡ Err (Damaged k))
-LoadAnswer m t (Err TooLong) = (t ≡ m) × (m.kept ≡ Err TooLong)
-LoadAnswer m t (Err Moved) = ⊥
-LoadAnswer m t (Err Fault) = t ≡ m
-LoadAnswer m t (Err NoMemory) = t ≡ m
-
--- a commit acts whole or not at all; where it moved, the file wasn't as it was loaded
-abbrev pub CommitAnswer : KeeperState → KeeperState → List Row → Result (Unit {0}) KeeperError → Type 0
-CommitAnswer m t rows (Ok u) = t ≡ happens m (Committed rows)
-CommitAnswer m t rows (Err Fault) = (t ≡ m) ⊎ (t ≡ happens m (Committed rows))
-CommitAnswer m t rows (Err Moved) = t ≡ m
-CommitAnswer m t rows (Err TooLong) = t ≡ m
-CommitAnswer m t rows (Err NoMemory) = t ≡ m
-CommitAnswer m t rows (Err (Damaged k)) = ⊥
-
--- an error and its cause: a Fault comes only where the count rose
-abbrev pub KeeperCause : Type 0 → KeeperError → Type 0
-KeeperCause rose Fault = rose
-KeeperCause rose Moved = Unit {0}
-KeeperCause rose (Damaged k) = Unit {0}
-KeeperCause rose TooLong = Unit {0}
-KeeperCause rose NoMemory = Unit {0}

@@ -1,5 +1,6 @@
 pub mod FileStatus
 pub mod Idents
+pub mod KeeperCalls
 pub mod Kept
 pub mod Reading
 pub mod Rows

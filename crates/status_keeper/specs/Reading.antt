@@ -1,5 +1,5 @@
 -- What a reading of a status may answer, and which rows read back (this project's own).
-use Rattle.std.specs.Prelude.{◌≡◌, ℕ, List, Some, Result, Ok, Err}
+use Rattle.std.specs.Prelude.{◌≡◌, Some, Result, Ok, Err}
 use Rattle.std.specs.declared.vec.Vec.{Vec}
 use Rattle.std.specs.declared.alloc.Global.{Global}
 use Rattle.status_keeper.specs.declared.row.Row.{Row}

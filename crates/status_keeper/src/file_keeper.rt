@@ -54,7 +54,7 @@ impl<F: Folder> FileKeeper<F> {
 }
 
 impl<F: Folder> Keeper for FileKeeper<F> {
-    ghost use Rattle.status_keeper.specs.FileStatus.{state_of};
+    ghost use Rattle.status_keeper.specs.FileStatus.{state_of, etag_in, CommitsTo};
 
     ghost count = { λ k. F.count k.folder };
 
@@ -63,6 +63,10 @@ impl<F: Folder> Keeper for FileKeeper<F> {
     ghost state = { λ k. state_of (F.state k.folder) };
 
     ghost is_loaded = { λ k. k.loaded };
+
+    ghost is_current = { λ k. k.found ≡ etag_in (F.state k.folder) };
+
+    ghost commits = { λ old new rows result. CommitsTo (F.tells old.folder) (F.state old.folder) (F.state new.folder) old.found rows result };
 
     fn faults(&self) -> u64 {
         self.folder.faults()

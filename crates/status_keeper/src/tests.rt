@@ -57,13 +57,19 @@ fn holding(alloc: Global, file: &[u8], plan: FaultPlan) -> Result<FileKeeper<Mem
     Ok(FileKeeper::new(alloc, folder))
 }
 
-/// The number of the damage that a load of this file answers.
+/// The number of the damage that a load of this file answers. The file is left as it was.
 fn damage(alloc: Global, file: &[u8]) -> Result<Option<u32>, Fail> {
     let mut keeper = holding(alloc, file, no_plan(alloc))?;
-    match keeper.load() {
-        Err(KeeperError::Damaged(number)) => Ok(Some(number)),
-        _ => Ok(None),
+    let number = match keeper.load() {
+        Err(KeeperError::Damaged(number)) => Some(number),
+        _ => None,
+    };
+    let mut folder = keeper.into_folder();
+    let left = folder.read("items", 4_000_000)?.ok_or("no file")?;
+    if left.as_slice() != file {
+        return Err("another file")?;
     }
+    Ok(number)
 }
 
 #[test]
@@ -104,7 +110,7 @@ fn a_commit_reads_back(rt: HostRuntime) -> Result<(), Fail> {
 #[test]
 fn damaged_files(rt: HostRuntime) -> Result<(), Fail> {
     let alloc = rt.alloc();
-    let whole: [&[u8]; 10] = [
+    let whole: [&[u8]; 14] = [
         b"",
         b"{}",
         b"\xff",
@@ -115,6 +121,10 @@ fn damaged_files(rt: HostRuntime) -> Result<(), Fail> {
         b"{\"rows\":{},\"version\":\"1\"}",
         b"{\"rows\":[],\"version\":1}",
         b"{\"a\":0,\"rows\":{},\"version\":1}",
+        b"{\"rows\":{},\"version\":1,\"z\":0}",
+        b"{\"rows\":{},\"version\":1e0}",
+        b"{\"rows\":{},\"version\":1}1",
+        b"{\"row\":{},\"version\":1}",
     ];
     for file in whole {
         assert!(rt; damage(alloc, file)? == Some(0));
@@ -152,6 +162,28 @@ fn damaged_rows(rt: HostRuntime) -> Result<(), Fail> {
     Ok(())
 }
 
+/// The first bad row counts, in byte order of idents.
+#[test]
+fn rows_of_a_wrong_shape(rt: HostRuntime) -> Result<(), Fail> {
+    let alloc = rt.alloc();
+    for bad in ["null", "{}", "[]", "\"\"", "[null,null,null,null,null]"] {
+        let file = format!(in alloc;
+            "{{\"rows\":{{\"b\":0,\"a\":{bad},\"B\":[\"{F1_TEXT}\",null,null,null,null]}},\"version\":1}}"
+        )?;
+        assert!(rt; damage(alloc, file.as_bytes())? == Some(2));
+    }
+    for rest in [
+        "true,null,null,null",
+        "null,[],null,null",
+        "null,null,{},null",
+        "null,null,null,0",
+    ] {
+        let file = second(alloc, F1_TEXT, rest)?;
+        assert!(rt; damage(alloc, file.as_bytes())? == Some(2));
+    }
+    Ok(())
+}
+
 #[test]
 fn nesting_too_deep(rt: HostRuntime) -> Result<(), Fail> {
     let alloc = rt.alloc();
@@ -163,21 +195,65 @@ fn nesting_too_deep(rt: HostRuntime) -> Result<(), Fail> {
     Ok(())
 }
 
+/// A plan with one edit of the status file, before this call.
+fn edited(alloc: Global, before_call: u64, new: Option<Bytes>) -> Result<FaultPlan, Fail> {
+    let mut plan = no_plan(alloc);
+    let name = text(alloc, "items")?;
+    plan.edits.push(OutsideEdit {
+        before_call,
+        name,
+        new,
+    })?;
+    Ok(plan)
+}
+
+/// Whether a commit of the loaded rows was refused as moved, and the file that it leaves.
+fn committed(mut keeper: FileKeeper<MemFolder>) -> Result<(bool, Option<Vec<u8>>), Fail> {
+    let rows = keeper.load()?;
+    let moved = matches!(keeper.commit(rows.as_slice()), Err(KeeperError::Moved));
+    let mut folder = keeper.into_folder();
+    Ok((moved, folder.read("items", 10_000)?))
+}
+
 #[test]
 fn an_edit_from_outside_is_kept(rt: HostRuntime) -> Result<(), Fail> {
     let alloc = rt.alloc();
-    let mut plan = no_plan(alloc);
-    plan.edits.push(OutsideEdit {
-        before_call: 2,
-        name: text(alloc, "items")?,
-        new: Some(bytes(alloc, b"{}")?),
-    })?;
-    let mut keeper = holding(alloc, STATUS.as_bytes(), plan)?;
-    let rows = keeper.load()?;
-    assert!(rt; matches!(keeper.commit(rows.as_slice()), Err(KeeperError::Moved)));
-    let mut folder = keeper.into_folder();
-    let file = folder.read("items", 100)?.ok_or("no file")?;
-    assert!(rt; file.as_slice() == b"{}".as_slice());
+    let plan = edited(alloc, 2, Some(bytes(alloc, b"{}")?))?;
+    let (moved, left) = committed(holding(alloc, STATUS.as_bytes(), plan)?)?;
+    assert!(rt; moved);
+    assert!(rt; left.ok_or("no file")?.as_slice() == b"{}".as_slice());
+    Ok(())
+}
+
+#[test]
+fn a_file_that_came_is_kept(rt: HostRuntime) -> Result<(), Fail> {
+    let alloc = rt.alloc();
+    for call in [2, 3] {
+        let plan = edited(alloc, call, Some(bytes(alloc, b"{}")?))?;
+        let (moved, left) = committed(absent(alloc, plan)?)?;
+        assert!(rt; moved);
+        assert!(rt; left.ok_or("no file")?.as_slice() == b"{}".as_slice());
+    }
+    Ok(())
+}
+
+#[test]
+fn a_file_that_went_stays_away(rt: HostRuntime) -> Result<(), Fail> {
+    let alloc = rt.alloc();
+    let plan = edited(alloc, 2, None)?;
+    let (moved, left) = committed(holding(alloc, STATUS.as_bytes(), plan)?)?;
+    assert!(rt; moved);
+    assert!(rt; left.is_none());
+    Ok(())
+}
+
+#[test]
+fn the_same_bytes_are_no_move(rt: HostRuntime) -> Result<(), Fail> {
+    let alloc = rt.alloc();
+    let plan = edited(alloc, 2, Some(bytes(alloc, STATUS.as_bytes())?))?;
+    let (moved, left) = committed(holding(alloc, STATUS.as_bytes(), plan)?)?;
+    assert!(rt; !moved);
+    assert!(rt; left.ok_or("no file")?.as_slice() == STATUS.as_bytes());
     Ok(())
 }
 

@@ -4,6 +4,7 @@ use Rattle.status_keeper.specs.declared.row.Row.{Row}
 use Rattle.status_keeper.specs.declared.keeper.KeeperError.{KeeperError}
 use Rattle.status_keeper.specs.declared.keeper.KeeperError.TheVariants as keeper
 use Rattle.status_keeper.specs.Kept as status
+use Rattle.status_keeper.specs.KeeperCalls as status_calls
 use Rattle.sync_plan.specs.declared.report.JobEnd.{JobEnd}
 use Rattle.sync_plan.specs.declared.report.JobEnd.TheVariants.{Synced}
 use Rattle.sync_run.specs.Ends.{Never, uncommitted_end, IsCausedEnd, IsRefused}
@@ -13,31 +14,31 @@ use Rattle.sync_run.specs.Jobs.{StatusEnd}
 pub commit_kind : (s t : List Row) (e : status.KeeperEvent) → s ≡ t → status.IsCommitOf s e → status.IsCommitOf t e
 commit_kind s t e same h = subst (λ (l : List Row). status.IsCommitOf l e) same h
 
-at_error : (error : KeeperError) (s t : status.KeeperState) (rows : List Row) → status.AfterEdits s (λ m. status.CommitAnswer m t rows (Err error)) → StatusEnd true (uncommitted_end error) s t rows
+at_error : (error : KeeperError) (s t : status.KeeperState) (rows : List Row) → status_calls.AfterEdits s (λ m. status_calls.CommitAnswer m t rows (Err error)) → StatusEnd true (uncommitted_end error) s t rows
 at_error keeper.NoMemory s t rows h = inr (refl, h)
 at_error keeper.Fault s t rows h = (refl, h)
 at_error keeper.Moved s t rows h = (refl, h)
 at_error keeper.TooLong s t rows h = (refl, h)
 at_error (keeper.Damaged row) s t rows h = (refl, h)
 
-pub failed_commit : (error : KeeperError) (changed : Bool) (end : JobEnd) (s t : status.KeeperState) (sent rows : List Row) → sent ≡ rows → changed ≡ true → end ≡ uncommitted_end error → status.AfterEdits s (λ m. status.CommitAnswer m t sent (Err error)) → StatusEnd changed end s t rows
+pub failed_commit : (error : KeeperError) (changed : Bool) (end : JobEnd) (s t : status.KeeperState) (sent rows : List Row) → sent ≡ rows → changed ≡ true → end ≡ uncommitted_end error → status_calls.AfterEdits s (λ m. status_calls.CommitAnswer m t sent (Err error)) → StatusEnd changed end s t rows
 failed_commit error changed end s t sent rows same is ended h =
     subst (λ (b : Bool). StatusEnd b end s t rows) (sym is)
     (subst (λ (e : JobEnd). StatusEnd true e s t rows) (sym ended)
-    (at_error error s t rows (subst (λ (l : List Row). status.AfterEdits s (λ m. status.CommitAnswer m t l (Err error))) same h)))
+    (at_error error s t rows (subst (λ (l : List Row). status_calls.AfterEdits s (λ m. status_calls.CommitAnswer m t l (Err error))) same h)))
 
-pub done_commit : (changed : Bool) (s t : status.KeeperState) (sent rows : List Row) → sent ≡ rows → changed ≡ true → status.AfterEdits s (λ m. status.CommitAnswer m t sent (Ok tt)) → StatusEnd changed Synced s t rows
-done_commit changed s t sent rows same is h = inr (is, subst (λ (l : List Row). status.AfterEdits s (λ m. status.CommitAnswer m t l (Ok tt))) same h)
+pub done_commit : (changed : Bool) (s t : status.KeeperState) (sent rows : List Row) → sent ≡ rows → changed ≡ true → status_calls.AfterEdits s (λ m. status_calls.CommitAnswer m t sent (Ok tt)) → StatusEnd changed Synced s t rows
+done_commit changed s t sent rows same is h = inr (is, subst (λ (l : List Row). status_calls.AfterEdits s (λ m. status_calls.CommitAnswer m t l (Ok tt))) same h)
 
-caused_at : (rose : Type 0) (error : KeeperError) → status.KeeperCause rose error → IsCausedEnd Never Never (status.KeeperCause rose) (uncommitted_end error)
+caused_at : (rose : Type 0) (error : KeeperError) → status_calls.KeeperCause rose error → IsCausedEnd Never Never (status_calls.KeeperCause rose) (uncommitted_end error)
 caused_at rose keeper.NoMemory h = tt
 caused_at rose keeper.Fault h = h
 caused_at rose keeper.Moved h = tt
 caused_at rose keeper.TooLong h = tt
 caused_at rose (keeper.Damaged row) h = tt
 
-pub failed_cause : (rose : Type 0) (error : KeeperError) (end : JobEnd) → end ≡ uncommitted_end error → status.KeeperCause rose error → IsCausedEnd Never Never (status.KeeperCause rose) end
-failed_cause rose error end is h = subst (λ (e : JobEnd). IsCausedEnd Never Never (status.KeeperCause rose) e) (sym is) (caused_at rose error h)
+pub failed_cause : (rose : Type 0) (error : KeeperError) (end : JobEnd) → end ≡ uncommitted_end error → status_calls.KeeperCause rose error → IsCausedEnd Never Never (status_calls.KeeperCause rose) end
+failed_cause rose error end is h = subst (λ (e : JobEnd). IsCausedEnd Never Never (status_calls.KeeperCause rose) e) (sym is) (caused_at rose error h)
 
 not_refused_at : (error : KeeperError) → IsRefused (uncommitted_end error) → ⊥
 not_refused_at keeper.NoMemory h = h

@@ -7,6 +7,7 @@ use Rattle.status_keeper.specs.declared.row.Row.{Row}
 use Rattle.status_keeper.specs.declared.keeper.KeeperError.{KeeperError}
 use Rattle.status_keeper.specs.declared.keeper.KeeperError.TheVariants as keeper
 use Rattle.status_keeper.specs.Kept as status
+use Rattle.status_keeper.specs.KeeperCalls as status_calls
 use Rattle.status_keeper.specs.Kept.{KeeperEvent, Edited, Committed}
 use Rattle.status_keeper.specs.Rows.{RowStep}
 use Rattle.sync_plan.specs.declared.report.Line.{Line}
@@ -41,11 +42,11 @@ no_events {s} {t} run = by s run.events run.leads
 unedited : {s m t : status.KeeperState} → status.Evolves status.IsOwn s t → status.Evolves status.IsEdit s m → Runs status.happens status.IsTrueEvent Anything m t → m ≡ s
 unedited {s} {m} {t} whole edits later = no_events (Runs-both keeper_keeps (Runs-first keeper_keeps whole (Runs-weaker (λ e h. tt) edits) later) edits)
 
-answered : (error : KeeperError) (s m t : status.KeeperState) (rows : List Row) → status.Evolves status.IsEdit s m → status.CommitAnswer m t rows (Err error) → status.Evolves status.IsEdit s t ⊎ Commits rows s t
+answered : (error : KeeperError) (s m t : status.KeeperState) (rows : List Row) → status.Evolves status.IsEdit s m → status_calls.CommitAnswer m t rows (Err error) → status.Evolves status.IsEdit s t ⊎ Commits rows s t
 answered keeper.Fault s m t rows edits (inl same) = inl (subst (λ (x : status.KeeperState). status.Evolves status.IsEdit s x) (sym same) edits)
 answered keeper.Fault s m t rows edits (inr acted) = inr (record { moment = m; edits = edits; is = acted })
 answered keeper.Moved s m t rows edits same = inl (subst (λ (x : status.KeeperState). status.Evolves status.IsEdit s x) (sym same) edits)
-answered keeper.TooLong s m t rows edits same = inl (subst (λ (x : status.KeeperState). status.Evolves status.IsEdit s x) (sym same) edits)
+answered keeper.TooLong s m t rows edits same = inl (subst (λ (x : status.KeeperState). status.Evolves status.IsEdit s x) (sym same.0) edits)
 answered keeper.NoMemory s m t rows edits same = inl (subst (λ (x : status.KeeperState). status.Evolves status.IsEdit s x) (sym same) edits)
 answered (keeper.Damaged row) s m t rows edits never = absurd never
 

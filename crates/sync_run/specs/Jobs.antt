@@ -10,6 +10,7 @@ use Rattle.status_keeper.specs.declared.row.Row.{Row}
 use Rattle.status_keeper.specs.declared.keeper.KeeperError.TheVariants as keeper
 use Rattle.status_keeper.specs.Idents.{IsRising}
 use Rattle.status_keeper.specs.Kept as status
+use Rattle.status_keeper.specs.KeeperCalls as status_calls
 use Rattle.status_keeper.specs.Rows.{row_of, RowStep}
 use Rattle.sync_plan.specs.declared.report.Side.TheVariants.{A, B}
 use Rattle.sync_plan.specs.declared.report.What.{What}
@@ -74,10 +75,10 @@ pub record IsTrueLine (a read_a b read_b : SideState) (before after : List Row) 
 
 -- what an end says of the status: nothing was sent where the rows are as before, and else one commit of the rows answered so
 abbrev pub StatusEnd : Bool → JobEnd → status.KeeperState → status.KeeperState → List Row → Type 0
-StatusEnd changed Synced s t rows = ((changed ≡ false) × (t ≡ s)) ⊎ ((changed ≡ true) × status.AfterEdits s (λ m. status.CommitAnswer m t rows (Ok tt)))
-StatusEnd changed (NotCommitted error) s t rows = (changed ≡ true) × status.AfterEdits s (λ m. status.CommitAnswer m t rows (Err error))
+StatusEnd changed Synced s t rows = ((changed ≡ false) × (t ≡ s)) ⊎ ((changed ≡ true) × status_calls.AfterEdits s (λ m. status_calls.CommitAnswer m t rows (Ok tt)))
+StatusEnd changed (NotCommitted error) s t rows = (changed ≡ true) × status_calls.AfterEdits s (λ m. status_calls.CommitAnswer m t rows (Err error))
 StatusEnd changed (Refused refusal) s t rows = t ≡ s
-StatusEnd changed NoMemory s t rows = (t ≡ s) ⊎ ((changed ≡ true) × status.AfterEdits s (λ m. status.CommitAnswer m t rows (Err keeper.NoMemory)))
+StatusEnd changed NoMemory s t rows = (t ≡ s) ⊎ ((changed ≡ true) × status_calls.AfterEdits s (λ m. status_calls.CommitAnswer m t rows (Err keeper.NoMemory)))
 
 -- the status was loaded with these rows, or the job ended without them and has written nothing
 abbrev pub IsLoaded : JobEnd → SideState → SideState → SideState → SideState → status.KeeperState → status.KeeperState → List Row → Type 0

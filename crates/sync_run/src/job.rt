@@ -7,7 +7,8 @@ ghost use Rattle.sync_run.specs.Ends.{Never, IsCausedEnd, IsCausedWhat, IsRefuse
 ghost use Rattle.sync_plan.specs.declared.report.Side.{Side};
 ghost use Rattle.status_keeper.specs.Idents.{IsRising};
 ghost use Rattle.status_keeper.specs.Rows.{row_idents};
-ghost use Rattle.status_keeper.specs.Kept.{IsCommitOf, KeeperCause};
+ghost use Rattle.status_keeper.specs.Kept.{IsCommitOf};
+ghost use Rattle.status_keeper.specs.KeeperCalls.{KeeperCause};
 ghost use Rattle.status_keeper.specs.Kept.{Changes as KeeperChanges, Evolves as KeeperEvolves};
 ghost use Rattle.store_model.specs.Sides.{IsAdding, Evolves};
 ghost use Rattle.store_model.specs.StoreCalls.{StoreCause};

@@ -9,7 +9,8 @@ ghost use Rattle.sync_run.specs.Ends.{Never, end_of, unloaded_end, IsCausedEnd, 
 ghost use Rattle.sync_run.specs.Reads.{IsTrueOfStatus, IsStorageEnd, IsShown, IsToldAs, IsGotError};
 ghost use Rattle.status_keeper.specs.Idents.{IsRising};
 ghost use Rattle.status_keeper.specs.Rows.{row_idents};
-ghost use Rattle.status_keeper.specs.Kept.{IsEdit, KeeperCause, Changes as KeeperChanges};
+ghost use Rattle.status_keeper.specs.Kept.{IsEdit, Changes as KeeperChanges};
+ghost use Rattle.status_keeper.specs.KeeperCalls.{KeeperCause};
 
 use status_keeper::{Keeper, KeeperError, Row};
 use std::alloc::{AllocError, Global};

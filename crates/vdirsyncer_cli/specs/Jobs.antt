@@ -7,7 +7,7 @@ use Rattle.store_model.specs.Sides.{Evolves, IsAdding}
 use Rattle.store_model.specs.StoreCalls.{StoreCause}
 use Rattle.vdir_store.specs.Names.{SpeaksOf}
 use Rattle.vdir_store.specs.Vdir.{side_of}
-use Rattle.status_keeper.specs.Kept.{KeeperCause}
+use Rattle.status_keeper.specs.KeeperCalls.{KeeperCause}
 use Rattle.status_keeper.specs.FileStatus.{state_of}
 use Rattle.sync_plan.specs.declared.report.Report.{Report}
 use Rattle.sync_plan.specs.declared.report.Refusal.TheVariants.{SameLocation}

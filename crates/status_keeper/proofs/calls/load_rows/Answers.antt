@@ -1,4 +1,4 @@
-use Rattle.std.proofs.Common.{◌≡◌, ℕ, ◌<◌, ◌≤◌, List, [], ◌++◌, length, string_bytes, Option, Some, None, Result, Ok, Err, refl, sym, ap, ◌∙◌, subst, arith, rules}
+use Rattle.std.proofs.Common.{ℕ, List, Ok, Err, ap, ◌∙◌, subst}
 use Rattle.status_keeper.specs.declared.keeper.KeeperError.TheVariants.{NoMemory}
 use Rattle.status_keeper.specs.Reading.{Gives}
 use Rattle.status_keeper.specs.Status.{kept_text}

@@ -1,4 +1,4 @@
-use Rattle.std.proofs.Common.{◌≡◌, ◌≤◌, List, [], Option, Some, None, Result, Ok, Err, refl, sym, ap, ◌∙◌, subst, arith}
+use Rattle.std.proofs.Common.{Ok, Err, ap}
 use Rattle.status_keeper.proofs.Committing.{replaced}
 use Rattle.status_keeper.proofs.calls.replace_file.Goals as goal
 

@@ -1,4 +1,4 @@
-use Rattle.std.proofs.Common.{◌≡◌, false, true, ℕ, ◌<◌, ◌≤◌, List, [], ◌++◌, length, string_bytes, Option, Some, None, Result, Ok, Err, refl, sym, ap, ◌∙◌, subst, arith, rules}
+use Rattle.std.proofs.Common.{◌≡◌, false, true, ◌<◌, List, ◌++◌, length, sym, ap, subst}
 use Rattle.serde_json.specs.View.{members_view}
 use Rattle.status_keeper.specs.declared.row.Row.{Row}
 use Rattle.status_keeper.specs.Idents.{IsRising}

@@ -1,4 +1,4 @@
-use Rattle.std.proofs.Common.{◌≡◌, ◌++◌, Ok, vec_len, btree_map_len}
+use Rattle.std.proofs.Common.{◌≡◌, ◌++◌, btree_map_len}
 use Rattle.serde_json.specs.View.{members_view}
 use Rattle.status_keeper.specs.Idents.{IsRising}
 use Rattle.status_keeper.specs.Rows.{row_idents}

@@ -1,4 +1,4 @@
-use Rattle.std.proofs.Common.{◌≡◌, false, true, ℕ, ◌<◌, ◌≤◌, List, [], ◌++◌, length, string_bytes, Option, Some, None, Result, Ok, Err, refl, sym, ap, ◌∙◌, subst, arith, rules}
+use Rattle.std.proofs.Common.{◌≡◌, false, true, Some, sym, subst}
 use Rattle.serde_json.specs.View.{view, members_view}
 use Rattle.status_keeper.specs.Kept.{Kept}
 use Rattle.status_keeper.specs.Reading.{Gives}

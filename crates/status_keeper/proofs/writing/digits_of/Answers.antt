@@ -1,4 +1,4 @@
-use Rattle.std.proofs.Common.{◌≡◌, ◌≤◌, List, [], Option, Some, None, Result, Ok, Err, refl, sym, ap, ◌∙◌, subst, arith}
+use Rattle.std.proofs.Common.{arith}
 use Rattle.status_keeper.proofs.Texts.{fp_back}
 use Rattle.status_keeper.proofs.writing.digits_of.Goals as goal
 
