@@ -8,7 +8,7 @@ use Rattle.status_keeper.specs.KeeperCalls as status_calls
 use Rattle.sync_plan.specs.declared.report.JobEnd.{JobEnd}
 use Rattle.sync_plan.specs.declared.report.JobEnd.TheVariants.{Synced}
 use Rattle.sync_run.specs.Ends.{Never, uncommitted_end, IsCausedEnd, IsRefused}
-use Rattle.sync_run.specs.Jobs.{StatusEnd}
+use Rattle.sync_run.specs.Jobs.{StatusEnd, IsUncommittedEnd}
 
 -- the same rows, sent as a slice
 pub commit_kind : (s t : List Row) (e : status.KeeperEvent) → s ≡ t → status.IsCommitOf s e → status.IsCommitOf t e
@@ -49,3 +49,13 @@ not_refused_at (keeper.Damaged row) h = h
 
 pub failed_not_refused : (error : KeeperError) (end : JobEnd) → end ≡ uncommitted_end error → IsRefused end → ⊥
 failed_not_refused error end is h = not_refused_at error (subst IsRefused is h)
+
+pub failed_shown : (error : KeeperError) (end : JobEnd) (s t : status.KeeperState) (sent rows : List Row) → sent ≡ rows → end ≡ uncommitted_end error → (error ≡ keeper.Moved → status_calls.WasEdited s t) → status_calls.AfterEdits s (λ m. status_calls.CommitAnswer m t sent (Err error)) → IsUncommittedEnd s t rows end
+failed_shown error end s t sent rows same is moved h = subst (λ (l : List Row). IsUncommittedEnd s t l end) same (subst (λ (e : JobEnd). IsUncommittedEnd s t sent e) (sym is) (at error moved h))
+  where
+    at : (e : KeeperError) → (e ≡ keeper.Moved → status_calls.WasEdited s t) → status_calls.AfterEdits s (λ m. status_calls.CommitAnswer m t sent (Err e)) → IsUncommittedEnd s t sent (uncommitted_end e)
+    at keeper.NoMemory moved h = tt
+    at keeper.Fault moved h = tt
+    at keeper.Moved moved h = moved refl
+    at keeper.TooLong moved h = h.does.1
+    at (keeper.Damaged row) moved h = absurd h.does

@@ -35,7 +35,7 @@ use Rattle.sync_run.proofs.LineCauses.{no_lines_cause, cause_at, lines_done}
 use Rattle.sync_run.proofs.Twins.{stood_twice}
 use Rattle.sync_run.proofs.ReadLemmas.{read_rows, read_cause}
 use Rattle.sync_plan.specs.declared.report.Refusal.TheVariants.{SameLocation, Status, Storage, SameIdent, NotBuilt}
-use Rattle.sync_run.specs.Jobs.{IsAnyIdent, IsLeft, IsDue, IsCopy, IsMadeRow, WasDue, IsTrueLine, StatusEnd, IsTrueRefusal, JobRun}
+use Rattle.sync_run.specs.Jobs.{IsAnyIdent, IsLeft, IsDue, IsCopy, IsMadeRow, WasDue, IsTrueLine, StatusEnd, IsUncommittedEnd, IsTrueRefusal, JobRun}
 
 kept_here : {X Y : Type 0} (h : X → Option Y) (P : Y → Type 0) (x : X) (ys : List Y) (Rest : Type 0) → (AllByRecursion P ys → Rest) → (o : Option Y) → h x ≡ o → AllByRecursion P (cons_option o ys) → ((y : Y) → h x ≡ Some y → P y) × Rest
 kept_here h P x ys Rest f None e all = ((λ y is. cc), f all)
@@ -170,6 +170,12 @@ early_status NoMemory early s rows = inl refl
 early_status Synced early s rows = absurd early
 early_status (NotCommitted error) early s rows = absurd early
 
+early_uncommitted : (end : JobEnd) → IsEarlyEnd end → (s : status.KeeperState) (rows : List Row) → IsUncommittedEnd s s rows end
+early_uncommitted (Refused refusal) early s rows = tt
+early_uncommitted NoMemory early s rows = tt
+early_uncommitted Synced early s rows = tt
+early_uncommitted (NotCommitted error) early s rows = absurd early
+
 early_not_full : (end : JobEnd) → IsEarlyEnd end → IsFullEnd end → ⊥
 early_not_full (Refused refusal) early full = full
 early_not_full NoMemory early full = full
@@ -204,6 +210,7 @@ only_read {a} {a'} {b} {b'} {k} {k'} before end lines reads_a reads_b load rows 
       differs = λ is. absurd (false≢true is);
       step = RowStep-refl before;
       committed = early_status end early k' before;
+      uncommitted = early_uncommitted end early k' before;
       full = λ is. absurd (early_not_full end early is);
       cause = cause;
       refused = λ is. (refl, refl, none);
@@ -264,9 +271,9 @@ pub ran : {a am a' b bm b' : SideState} {k km k' : status.KeeperState} (steps : 
     status.Evolves status.IsEdit k km → km.kept ≡ Ok before → IsRead steps before a am b bm →
     RowStep (IsStepRow steps am a' bm b') (IsExcused steps done) before rows → (changed ≡ false → rows ≡ before) → (changed ≡ true → rows ≢ before) →
     IsRising (line_idents done) → AllByRecursion (IsStepLine steps rows) done →
-    StatusEnd changed end km k' rows → LinesAt end lines done → (IsRefused end → ⊥) → HasCause A a a' done → HasCause B b b' done →
+    StatusEnd changed end km k' rows → IsUncommittedEnd km k' rows end → LinesAt end lines done → (IsRefused end → ⊥) → HasCause A a a' done → HasCause B b b' done →
     JobRun a a' b b' k k' end lines
-ran {a} {am} {a'} {b} {bm} {b'} {k} {km} {k'} steps before rows changed end done lines reads_a reads_b writes_a writes_b once_a once_b load is_loaded read step same differs rise of_steps committed at not_refused cause_a cause_b =
+ran {a} {am} {a'} {b} {bm} {b'} {k} {km} {k'} steps before rows changed end done lines reads_a reads_b writes_a writes_b once_a once_b load is_loaded read step same differs rise of_steps committed uncommitted at not_refused cause_a cause_b =
     let made : (row : Row) → IsStepRow steps am a' bm b' row → IsMadeRow a a' b b' row =
     step_row_is_made steps a am a' b bm b' (Since-from_evolves reads_a) (Since-from_evolves writes_a) (Since-from_evolves reads_b) (Since-from_evolves writes_b) read.fetched_a read.fetched_b
     in
@@ -290,6 +297,7 @@ ran {a} {am} {a'} {b} {bm} {b'} {k} {km} {k'} steps before rows changed end done
       differs = differs;
       step = RowStep-weaker made (λ ident kept. tt) step;
       committed = committed;
+      uncommitted = uncommitted;
       full = λ is. elim (lines_at end lines done at) [
         | inl all ↦ subst (λ (l : List Line). RowStep (IsMadeRow a a' b b') (IsLeft a am b bm before l) before rows) (sym all) left
         | inr none ↦ absurd (none.1 is)
@@ -334,6 +342,7 @@ stopped {a} {am} {a'} {b} {bm} {b'} {k} {km} steps before end lines reads_a read
       differs = λ same. absurd (false≢true same);
       step = RowStep-refl before;
       committed = subst (λ (e : JobEnd). StatusEnd false e km km before) (sym is) (inl refl);
+      uncommitted = subst (λ (e : JobEnd). IsUncommittedEnd km km before e) (sym is) tt;
       full = λ full. absurd (subst IsFullEnd is full);
       cause = λ refusal other. let clash : NoMemory ≡ Refused refusal = sym is ∙ other in cc;
       refused = λ refused. absurd (subst IsRefused is refused);

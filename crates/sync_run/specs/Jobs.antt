@@ -1,5 +1,5 @@
 -- What one run of one job does to its two sides and its status (this project's own).
-use Rattle.std.specs.Prelude.{◌≡◌, ◌≢◌, ◌⊎◌, ℕ, Bool, true, false, List, [], Option, Some, None, Ok, Err}
+use Rattle.std.specs.Prelude.{◌≡◌, ◌≢◌, ◌<◌, ◌⊎◌, ℕ, length, Bool, true, false, List, [], Option, Some, None, Ok, Err}
 use Rattle.std.specs.List.{AllByRecursion}
 use Rattle.item_text.specs.Items.{ItemValue, item_of}
 use Rattle.store_model.specs.declared.event.Held.{Held}
@@ -7,7 +7,9 @@ use Rattle.store_model.specs.declared.event.StoreEvent.{StoreEvent}
 use Rattle.store_model.specs.declared.event.StoreEvent.TheVariants.{Edited, Toggled, Wrote, Read}
 use Rattle.store_model.specs.Sides.{SideState, happens, IsTrueEvent, Evolves, Since, IsNoWrite, Sometime, WasRead, Lacks, HoldsAt, HoldsText, IsTextOf, IsUntouching, HasNone, WritesAtMostOne}
 use Rattle.status_keeper.specs.declared.row.Row.{Row}
+use Rattle.status_keeper.specs.declared.keeper.KeeperError.{KeeperError}
 use Rattle.status_keeper.specs.declared.keeper.KeeperError.TheVariants as keeper
+use Rattle.status_keeper.specs.Status.{max_status, text_of}
 use Rattle.status_keeper.specs.Idents.{IsRising}
 use Rattle.status_keeper.specs.Kept as status
 use Rattle.status_keeper.specs.KeeperCalls as status_calls
@@ -80,6 +82,20 @@ StatusEnd changed (NotCommitted error) s t rows = (changed ≡ true) × status_c
 StatusEnd changed (Refused refusal) s t rows = t ≡ s
 StatusEnd changed NoMemory s t rows = (t ≡ s) ⊎ ((changed ≡ true) × status_calls.AfterEdits s (λ m. status_calls.CommitAnswer m t rows (Err keeper.NoMemory)))
 
+-- why rows were not kept: the status was edited from outside since it was loaded, or the text of the rows passes the limit
+abbrev pub IsUncommitted : status.KeeperState → status.KeeperState → List Row → KeeperError → Type 0
+IsUncommitted s t rows keeper.Moved = status_calls.WasEdited s t
+IsUncommitted s t rows keeper.TooLong = max_status < length (text_of rows)
+IsUncommitted s t rows keeper.Fault = Unit {0}
+IsUncommitted s t rows (keeper.Damaged row) = ⊥
+IsUncommitted s t rows keeper.NoMemory = ⊥
+
+abbrev pub IsUncommittedEnd : status.KeeperState → status.KeeperState → List Row → JobEnd → Type 0
+IsUncommittedEnd s t rows (NotCommitted error) = IsUncommitted s t rows error
+IsUncommittedEnd s t rows (Refused refusal) = Unit {0}
+IsUncommittedEnd s t rows Synced = Unit {0}
+IsUncommittedEnd s t rows NoMemory = Unit {0}
+
 -- the status was loaded with these rows, or the job ended without them and has written nothing
 abbrev pub IsLoaded : JobEnd → SideState → SideState → SideState → SideState → status.KeeperState → status.KeeperState → List Row → Type 0
 IsLoaded end a' read_a b' read_b loaded k' before = (loaded.kept ≡ Ok before) ⊎ (IsUnloaded end × (a' ≡ read_a) × (b' ≡ read_b) × (k' ≡ loaded) × (before ≡ []))
@@ -127,6 +143,7 @@ pub record JobRun (a a' b b' : SideState) (k k' : status.KeeperState) (end : Job
   pub differs : changed ≡ true → after ≢ before
   pub step : RowStep (IsMadeRow a a' b b') IsAnyIdent before after
   pub committed : StatusEnd changed end loaded k' after
+  pub uncommitted : IsUncommittedEnd loaded k' after end
   -- after all steps each ident has a row of this run, or a line, or it is gone
   pub full : IsFullEnd end → RowStep (IsMadeRow a a' b b') (IsLeft a read_a b read_b before lines) before after
   -- a refused job has written nothing

@@ -12,7 +12,7 @@ ghost use Rattle.status_keeper.specs.KeeperCalls.{KeeperCause};
 ghost use Rattle.status_keeper.specs.Kept.{Changes as KeeperChanges, Evolves as KeeperEvolves};
 ghost use Rattle.store_model.specs.Sides.{IsAdding, Evolves};
 ghost use Rattle.store_model.specs.StoreCalls.{StoreCause};
-ghost use Rattle.sync_run.specs.Jobs.{StatusEnd, JobRun};
+ghost use Rattle.sync_run.specs.Jobs.{StatusEnd, IsUncommittedEnd, JobRun};
 
 use crate::copying::{Outcome, run_steps};
 use crate::planning::plan;
@@ -55,6 +55,7 @@ fn commit<K: Keeper>(alloc: Global, keeper: &mut K, outcome: Outcome) -> Report
     ensures lines { LinesAt result.end result.lines.items outcome.lines.items }
     ensures end { IsCausedEnd Never Never (KeeperCause (Rose (K.count keeper.old) (K.count keeper.new))) result.end }
     ensures not_refused { IsRefused result.end → ⊥ }
+    ensures uncommitted { K.tells keeper.old → K.is_current keeper.old → IsUncommittedEnd (K.state keeper.old) (K.state keeper.new) outcome.rows.items result.end }
 {
     let Outcome {
         rows,

@@ -53,6 +53,7 @@ fn load<K: Keeper>(keeper: &mut K) -> Result<Vec<Row>, JobEnd>
     ensures rows { K.tells keeper.old → IfOk result (λ rows. (K.state keeper.new).kept ≡ Ok rows.items) }
     ensures ordered { IfOk result (λ rows. IsRising (row_idents rows.items)) }
     ensures loaded { OnOk result (K.is_loaded keeper.new ≡ true) }
+    ensures current { K.tells keeper.old → OnOk result (K.is_current keeper.new) }
     ensures unloaded { IfErr result IsUnloaded }
     ensures refused { K.tells keeper.old → IfErr result (IsTrueOfStatus (K.state keeper.new)) }
     ensures early { IfErr result IsEarlyEnd }
@@ -133,6 +134,7 @@ pub fn read_job<A: Store, B: Store, K: Keeper>(
     ensures found_b { B.tells b.old → IfOk result (λ r. AllByRecursion (WasFetched (B.side b.old) (B.side b.new)) r.b.items) }
     ensures rows { K.tells keeper.old → IfOk result (λ r. (K.state keeper.new).kept ≡ Ok r.rows.items) }
     ensures loaded { OnOk result (K.is_loaded keeper.new ≡ true) }
+    ensures current { K.tells keeper.old → OnOk result (K.is_current keeper.new) }
     ensures refused { K.tells keeper.old → IfErr result (IsTrueOfStatus (K.state keeper.new)) }
     ensures ordered { IfOk result (λ r. IsRising (row_idents r.rows.items)) }
     ensures ready_a { OnOk result (IsReady A.waits A.is_listed a.new) }

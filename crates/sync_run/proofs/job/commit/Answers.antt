@@ -1,5 +1,6 @@
+use Rattle.std.proofs.Common.{◌∙◌, ap, Err}
 use Rattle.outside.proofs.Runs.{ChangesBy-weaker}
-use Rattle.sync_run.proofs.Commits.{commit_kind, failed_commit, done_commit, failed_cause, failed_not_refused}
+use Rattle.sync_run.proofs.Commits.{commit_kind, failed_commit, done_commit, failed_cause, failed_not_refused, failed_shown}
 use Rattle.sync_run.proofs.job.commit.Goals as goal
 
 pub returns-in-Ok-clause-keeper : goal.returns-in-Ok-clause-keeper
@@ -19,3 +20,7 @@ returns-clause-end g c = failed_cause _ c.in-Err.error c.uncommitted.result.end 
 
 pub returns-clause-not_refused : goal.returns-clause-not_refused
 returns-clause-not_refused g c = failed_not_refused c.in-Err.error c.uncommitted.result.end c.uncommitted.ensures.end
+
+pub returns-clause-uncommitted : goal.returns-clause-uncommitted
+returns-clause-uncommitted g c told current =
+    failed_shown c.in-Err.error c.uncommitted.result.end _ _ c.deref.result.now c.args.outcome.rows.items c.deref.ensures.value c.uncommitted.ensures.end (λ is. c.commit.ensures.moved told current (c.in-Err.is ∙ ap Err is)) (c.in-Err.ensures.answer told)
