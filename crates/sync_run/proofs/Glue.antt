@@ -28,7 +28,8 @@ use Rattle.sync_plan.specs.declared.report.Refusal.{Refusal}
 use Rattle.std.proofs.lemmas.Bool.{false≢true}
 use Rattle.sync_run.proofs.Distinct.{unnamed_in, unplanned_in, row_of_step, no_step_no_row}
 use Rattle.status_keeper.specs.Rows.{row_of, RowStep}
-use Rattle.sync_run.specs.Steps.{IsExcused, rows_of, step_ident, step_idents, IsOther, IsOneIdent, IsPlanned, on_a, on_b, HoldsItem, IsVouched, IsPlaced, IsStepRow, IsSent, IsStepWrite, IsWhatOf, IsStepLine, IsPlanEnd, line_idents}
+use Rattle.sync_run.specs.Steps.{IsExcused, rows_of, step_ident, step_idents, IsOther, IsOneIdent, IsPlanned, on_a, on_b, HoldsItem, IsVouched, IsPlaced, IsStepRow, IsSent, IsStepWrite, IsWhatOf, IsStepLine, line_idents}
+use Rattle.sync_run.specs.Plans.{IsPlanEnd}
 use Rattle.sync_run.specs.Ends.{IsEarlyEnd, IsFullEnd, IsRefused, IsUnloaded, LinesAt}
 use Rattle.sync_run.specs.Reads.{IsTrueOfStatus, IsStorageEnd, IsShown}
 use Rattle.sync_run.proofs.Twins.{stood_twice}
@@ -342,20 +343,20 @@ read_failed {a} {a'} {b} {b'} {k} {k'} end end' lines same none reads_a reads_b 
     let loaded = read_rows k' end of_status in
     subst (λ (e : JobEnd). JobRun a a' b b' k k' e lines) (sym same) (only_read loaded.0 end lines reads_a reads_b load loaded.1 early (read_cause a a' b b' k' loaded.0 end of_status shown_a shown_b) none)
 
-plan_refusal : (a a' b b' : SideState) (m : status.KeeperState) (before : List Row) (found_a found_b : List Fetched) (refusal : Refusal) → AllByRecursion (WasFetched a a') found_a → AllByRecursion (WasFetched b b') found_b → IsPlanEnd found_a found_b (Refused refusal) → IsTrueRefusal a a' b b' m before refusal
+plan_refusal : (a a' b b' : SideState) (m : status.KeeperState) (before : List Row) (found_a found_b : List Fetched) (refusal : Refusal) → AllByRecursion (WasFetched a a') found_a → AllByRecursion (WasFetched b b') found_b → IsPlanEnd found_a found_b before (Refused refusal) → IsTrueRefusal a a' b b' m before refusal
 plan_refusal a a' b b' m before found_a found_b SameLocation all_a all_b h = h
 plan_refusal a a' b b' m before found_a found_b (Status error) all_a all_b h = absurd h
 plan_refusal a a' b b' m before found_a found_b (Storage A error) all_a all_b h = absurd h
 plan_refusal a a' b b' m before found_a found_b (Storage B error) all_a all_b h = absurd h
-plan_refusal a a' b b' m before found_a found_b (SameIdent A ident first second) all_a all_b h = stood_twice a a' found_a ident first second (λ f among. All-contains (WasFetched a a') found_a f (All-from_recursion (WasFetched a a') found_a all_a) among) h
-plan_refusal a a' b b' m before found_a found_b (SameIdent B ident first second) all_a all_b h = stood_twice b b' found_b ident first second (λ f among. All-contains (WasFetched b b') found_b f (All-from_recursion (WasFetched b b') found_b all_b) among) h
+plan_refusal a a' b b' m before found_a found_b (SameIdent A ident first second) all_a all_b h = stood_twice a a' found_a ident first second (λ f among. All-contains (WasFetched a a') found_a f (All-from_recursion (WasFetched a a') found_a all_a) among) h.twin
+plan_refusal a a' b b' m before found_a found_b (SameIdent B ident first second) all_a all_b h = stood_twice b b' found_b ident first second (λ f among. All-contains (WasFetched b b') found_b f (All-from_recursion (WasFetched b b') found_b all_b) among) (h.1).twin
 plan_refusal a a' b b' m before found_a found_b (NotBuilt ident) all_a all_b h = tt
 
 -- a job whose steps could not be planned
-pub plan_failed : {a a' b b' : SideState} {k k' : status.KeeperState} (before : List Row) (end end' : JobEnd) (lines : List Line) → end' ≡ end → lines ≡ [] → Evolves IsNoWrite a a' → Evolves IsNoWrite b b' → status.Evolves status.IsEdit k k' → k'.kept ≡ Ok before → IsEarlyEnd end → (found_a found_b : List Fetched) → AllByRecursion (WasFetched a a') found_a → AllByRecursion (WasFetched b b') found_b → IsPlanEnd found_a found_b end → JobRun a a' b b' k k' end' lines
+pub plan_failed : {a a' b b' : SideState} {k k' : status.KeeperState} (before : List Row) (end end' : JobEnd) (lines : List Line) → end' ≡ end → lines ≡ [] → Evolves IsNoWrite a a' → Evolves IsNoWrite b b' → status.Evolves status.IsEdit k k' → k'.kept ≡ Ok before → IsEarlyEnd end → (found_a found_b : List Fetched) → AllByRecursion (WasFetched a a') found_a → AllByRecursion (WasFetched b b') found_b → IsPlanEnd found_a found_b before end → JobRun a a' b b' k k' end' lines
 plan_failed {a} {a'} {b} {b'} {k} {k'} before end end' lines same none reads_a reads_b load is_loaded early found_a found_b all_a all_b planned =
     subst (λ (e : JobEnd). JobRun a a' b b' k k' e lines) (sym same)
-    (only_read before end lines reads_a reads_b load (inl is_loaded) early (λ refusal is. plan_refusal a a' b b' k' before found_a found_b refusal all_a all_b (subst (λ (e : JobEnd). IsPlanEnd found_a found_b e) is planned)) none)
+    (only_read before end lines reads_a reads_b load (inl is_loaded) early (λ refusal is. plan_refusal a a' b b' k' before found_a found_b refusal all_a all_b (subst (λ (e : JobEnd). IsPlanEnd found_a found_b before e) is planned)) none)
 
 pub step_write_is_adding : (steps : List Planned) (side : Side) (e : StoreEvent) → IsStepWrite steps side e → IsAdding e
 step_write_is_adding steps side (Wrote href None (Some held) (Some sent)) h = refl

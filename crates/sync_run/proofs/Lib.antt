@@ -10,4 +10,5 @@ pub mod Lines
 pub mod ReadLemmas
 pub mod Commits
 pub mod Twins
+pub mod Least
 pub mod StatusLaws

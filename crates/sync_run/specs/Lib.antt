@@ -1,4 +1,5 @@
 pub mod Ends
 pub mod Reads
 pub mod Steps
+pub mod Plans
 pub mod Jobs
