@@ -270,7 +270,7 @@ pub record IsOrdered (a b : List Fetched) (rows : List Row) (steps : List Planne
   pub above_a : AllByRecursion (λ s. AllByRecursion (λ x. Precedes x s) (idents_of a)) (step_idents steps)
   pub above_b : AllByRecursion (λ s. AllByRecursion (λ x. Precedes x s) (idents_of b)) (step_idents steps)
 
-split_idents : {X : Type 0} (f : X → List ℕ) (xs xs' : List X) (o : Option X) → xs ≡ xs' ++ option_to_list o → map f xs ≡ map f xs' ++ map f (option_to_list o)
+pub split_idents : {X : Type 0} (f : X → List ℕ) (xs xs' : List X) (o : Option X) → xs ≡ xs' ++ option_to_list o → map f xs ≡ map f xs' ++ map f (option_to_list o)
 split_idents f xs xs' o e = ap (map f) e ∙ map-append f xs' (option_to_list o)
 
 above_rest : (xs xs' ys ss : List (List ℕ)) → xs ≡ xs' ++ ys → AllByRecursion (λ s. AllByRecursion (λ x. Precedes x s) xs) ss → AllByRecursion (λ s. AllByRecursion (λ x. Precedes x s) xs') ss × AllByRecursion (λ s. AllByRecursion (λ x. Precedes x s) ys) ss

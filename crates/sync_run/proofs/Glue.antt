@@ -28,14 +28,14 @@ use Rattle.sync_plan.specs.declared.report.Refusal.{Refusal}
 use Rattle.std.proofs.lemmas.Bool.{false≢true}
 use Rattle.sync_run.proofs.Distinct.{unnamed_in, unplanned_in, row_of_step, no_step_no_row}
 use Rattle.status_keeper.specs.Rows.{row_of, RowStep}
-use Rattle.sync_run.specs.Steps.{IsExcused, rows_of, step_ident, step_idents, IsOther, IsOneIdent, IsPlanned, on_a, on_b, HoldsItem, IsVouched, IsPlaced, IsStepRow, IsSent, IsStepWrite, IsWhatOf, IsStepLine, IsPlanEnd, line_idents, HasCause}
+use Rattle.sync_run.specs.Steps.{IsExcused, rows_of, step_ident, step_idents, IsOther, IsOneIdent, IsPlanned, on_a, on_b, HoldsItem, IsVouched, IsPlaced, IsStepRow, IsSent, IsStepWrite, IsWhatOf, IsStepLine, line_idents, HasCause}
+use Rattle.sync_run.specs.Plans.{IsPlanEnd}
 use Rattle.sync_run.specs.Ends.{IsEarlyEnd, IsFullEnd, IsRefused, IsUnloaded, LinesAt}
 use Rattle.sync_run.specs.Reads.{IsTrueOfStatus, IsStorageEnd, IsShown}
 use Rattle.sync_run.proofs.LineCauses.{no_lines_cause, cause_at, lines_done}
-use Rattle.sync_run.proofs.Twins.{stood_twice}
 use Rattle.sync_run.proofs.ReadLemmas.{read_rows, read_cause}
 use Rattle.sync_plan.specs.declared.report.Refusal.TheVariants.{SameLocation, Status, Storage, SameIdent, NotBuilt}
-use Rattle.sync_run.specs.Jobs.{IsAnyIdent, IsLeft, IsDue, IsCopy, IsMadeRow, WasDue, IsTrueLine, StatusEnd, IsUncommittedEnd, IsTrueRefusal, JobRun}
+use Rattle.sync_run.specs.Jobs.{IsAnyIdent, IsLeft, IsDue, IsCopy, IsMadeRow, WasDue, IsTrueLine, StatusEnd, IsUncommittedEnd, WasReadAs, IsTrueRefusal, JobRun}
 
 kept_here : {X Y : Type 0} (h : X → Option Y) (P : Y → Type 0) (x : X) (ys : List Y) (Rest : Type 0) → (AllByRecursion P ys → Rest) → (o : Option Y) → h x ≡ o → AllByRecursion P (cons_option o ys) → ((y : Y) → h x ≡ Some y → P y) × Rest
 kept_here h P x ys Rest f None e all = ((λ y is. cc), f all)
@@ -358,20 +358,20 @@ read_failed {a} {a'} {b} {b'} {k} {k'} end end' lines same none reads_a reads_b 
     let loaded = read_rows k' end of_status in
     subst (λ (e : JobEnd). JobRun a a' b b' k k' e lines) (sym same) (only_read loaded.0 end lines reads_a reads_b load loaded.1 early (read_cause a a' b b' k' loaded.0 end of_status shown_a shown_b) none)
 
-plan_refusal : (a a' b b' : SideState) (m : status.KeeperState) (before : List Row) (found_a found_b : List Fetched) (refusal : Refusal) → AllByRecursion (WasFetched a a') found_a → AllByRecursion (WasFetched b b') found_b → IsPlanEnd found_a found_b (Refused refusal) → IsTrueRefusal a a' b b' m before refusal
-plan_refusal a a' b b' m before found_a found_b SameLocation all_a all_b h = h
-plan_refusal a a' b b' m before found_a found_b (Status error) all_a all_b h = absurd h
-plan_refusal a a' b b' m before found_a found_b (Storage A error) all_a all_b h = absurd h
-plan_refusal a a' b b' m before found_a found_b (Storage B error) all_a all_b h = absurd h
-plan_refusal a a' b b' m before found_a found_b (SameIdent A ident first second) all_a all_b h = stood_twice a a' found_a ident first second (λ f among. All-contains (WasFetched a a') found_a f (All-from_recursion (WasFetched a a') found_a all_a) among) h
-plan_refusal a a' b b' m before found_a found_b (SameIdent B ident first second) all_a all_b h = stood_twice b b' found_b ident first second (λ f among. All-contains (WasFetched b b') found_b f (All-from_recursion (WasFetched b b') found_b all_b) among) h
-plan_refusal a a' b b' m before found_a found_b (NotBuilt ident) all_a all_b h = tt
+plan_refusal : (a a' b b' : SideState) (m : status.KeeperState) (before : List Row) (found_a found_b : List Fetched) (refusal : Refusal) → WasReadAs a a' found_a → WasReadAs b b' found_b → IsPlanEnd found_a found_b before (Refused refusal) → IsTrueRefusal a a' b b' m before refusal
+plan_refusal a a' b b' m before found_a found_b SameLocation read_a read_b h = h
+plan_refusal a a' b b' m before found_a found_b (Status error) read_a read_b h = absurd h
+plan_refusal a a' b b' m before found_a found_b (Storage A error) read_a read_b h = absurd h
+plan_refusal a a' b b' m before found_a found_b (Storage B error) read_a read_b h = absurd h
+plan_refusal a a' b b' m before found_a found_b (SameIdent A ident first second) read_a read_b h = record { found_a = found_a; found_b = found_b; was_read_a = read_a; was_read_b = read_b; so = h }
+plan_refusal a a' b b' m before found_a found_b (SameIdent B ident first second) read_a read_b h = record { found_a = found_a; found_b = found_b; was_read_a = read_a; was_read_b = read_b; so = h }
+plan_refusal a a' b b' m before found_a found_b (NotBuilt ident) read_a read_b h = record { found_a = found_a; found_b = found_b; was_read_a = read_a; was_read_b = read_b; so = h }
 
 -- a job whose steps could not be planned
-pub plan_failed : {a a' b b' : SideState} {k k' : status.KeeperState} (before : List Row) (end end' : JobEnd) (lines : List Line) → end' ≡ end → lines ≡ [] → Evolves IsNoWrite a a' → Evolves IsNoWrite b b' → status.Evolves status.IsEdit k k' → k'.kept ≡ Ok before → IsEarlyEnd end → (found_a found_b : List Fetched) → AllByRecursion (WasFetched a a') found_a → AllByRecursion (WasFetched b b') found_b → IsPlanEnd found_a found_b end → JobRun a a' b b' k k' end' lines
-plan_failed {a} {a'} {b} {b'} {k} {k'} before end end' lines same none reads_a reads_b load is_loaded early found_a found_b all_a all_b planned =
+pub plan_failed : {a a' b b' : SideState} {k k' : status.KeeperState} (before : List Row) (end end' : JobEnd) (lines : List Line) → end' ≡ end → lines ≡ [] → Evolves IsNoWrite a a' → Evolves IsNoWrite b b' → status.Evolves status.IsEdit k k' → k'.kept ≡ Ok before → IsEarlyEnd end → (found_a found_b : List Fetched) → WasReadAs a a' found_a → WasReadAs b b' found_b → IsPlanEnd found_a found_b before end → JobRun a a' b b' k k' end' lines
+plan_failed {a} {a'} {b} {b'} {k} {k'} before end end' lines same none reads_a reads_b load is_loaded early found_a found_b read_a read_b planned =
     subst (λ (e : JobEnd). JobRun a a' b b' k k' e lines) (sym same)
-    (only_read before end lines reads_a reads_b load (inl is_loaded) early (λ refusal is. plan_refusal a a' b b' k' before found_a found_b refusal all_a all_b (subst (λ (e : JobEnd). IsPlanEnd found_a found_b e) is planned)) none)
+    (only_read before end lines reads_a reads_b load (inl is_loaded) early (λ refusal is. plan_refusal a a' b b' k' before found_a found_b refusal read_a read_b (subst (λ (e : JobEnd). IsPlanEnd found_a found_b before e) is planned)) none)
 
 pub step_write_is_adding : (steps : List Planned) (side : Side) (e : StoreEvent) → IsStepWrite steps side e → IsAdding e
 step_write_is_adding steps side (Wrote href None (Some held) (Some sent)) h = refl

@@ -10,5 +10,7 @@ pub mod Lines
 pub mod ReadLemmas
 pub mod Commits
 pub mod Twins
+pub mod Least
 pub mod StatusLaws
 pub mod LineCauses
+pub mod Complete

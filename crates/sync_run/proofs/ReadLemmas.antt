@@ -1,8 +1,13 @@
 -- What a job's reading shows.
-use Rattle.std.proofs.Common.{◌≡◌, ◌⊎◌, inl, inr, ℕ, Bool, true, false, cond, List, [], ◌∷◌, ◌++◌, Some, map, Ok, Err, refl, sym, ◌∙◌, ap, subst}
+use Rattle.std.proofs.Common.{◌≡◌, ◌⊎◌, inl, inr, ℕ, Bool, true, false, cond, List, [], ◌∷◌, ◌++◌, Some, map, Ok, Err, ◌&&◌, T, refl, sym, ◌∙◌, ap, subst}
 use Rattle.std.specs.FinMap as fin
-use Rattle.std.specs.FinMap.{get-entries, find}
-use Rattle.std.specs.Ordering.{nat_cmp, eq_by_cmp}
+use Rattle.std.specs.FinMap.{get-entries, find, entries_sorted}
+use Rattle.std.specs.FinMap.Entries.{below_all, is_sorted}
+use Rattle.std.specs.List.{AllByRecursion}
+use Rattle.status_keeper.specs.Idents.{Precedes, IsRising}
+use Rattle.std.specs.declared.cmp.Ordering.{Ordering}
+use Rattle.std.specs.declared.cmp.Ordering.TheVariants.{Less, Equal, Greater}
+use Rattle.std.specs.Ordering.{nat_cmp, eq_by_cmp, is_lt}
 use Rattle.std.specs.Cmp.Lexicographic.{slice_cmp}
 use Rattle.std.proofs.lemmas.Map.Text.{is_eq-slice_cmp}
 use Rattle.std.proofs.lemmas.Slice.Eq.{bytes_eq-Decides}
@@ -154,3 +159,30 @@ got_error side error end recalls s t hrefs asked same is answer = subst (λ (l :
     at store.NotThere h = storage_end side (IsGotError recalls s t hrefs) store.NotThere (stopped_asked recalls s t hrefs store.NotThere h)
     at (store.Vanished href) h = storage_end side (IsGotError recalls s t hrefs) (store.Vanished href) (stopped_asked recalls s t hrefs (store.Vanished href) h)
     at (store.BadItem href error) h = storage_end side (IsGotError recalls s t hrefs) (store.BadItem href error) (stopped_asked recalls s t hrefs (store.BadItem href error) h)
+
+-- ---- the hrefs of a listing rise
+
+first_of_both : (a b : Bool) → T (a && b) → T a × T b
+first_of_both true b h = (tt, h)
+first_of_both false b h = absurd h
+
+less_from : (r : Ordering) → T (is_lt r) → r ≡ Less
+less_from Less h = refl
+less_from Equal h = absurd h
+less_from Greater h = absurd h
+
+below_hrefs : (x : List ℕ) (es : List (List ℕ × Held)) → T (below_all (slice_cmp nat_cmp) x es) → AllByRecursion (λ y. Precedes x y) (map (λ (e : List ℕ × Held). e.0) es)
+below_hrefs x [] h = tt
+below_hrefs x (e ∷ es) h = let both = first_of_both (is_lt (slice_cmp nat_cmp x e.0)) (below_all (slice_cmp nat_cmp) x es) h in (less_from (slice_cmp nat_cmp x e.0) both.0, below_hrefs x es both.1)
+
+sorted_hrefs : (es : List (List ℕ × Held)) → T (is_sorted (slice_cmp nat_cmp) es) → IsRising (map (λ (e : List ℕ × Held). e.0) es)
+sorted_hrefs [] h = tt
+sorted_hrefs (e ∷ es) h = let both = first_of_both (below_all (slice_cmp nat_cmp) e.0 es) (is_sorted (slice_cmp nat_cmp) es) h in (below_hrefs e.0 es both.0, sorted_hrefs es both.1)
+
+entry_hrefs : (es : List (List ℕ × Held)) → map (λ (e : Entry). e.href) (map entry_of es) ≡ map (λ (e : List ℕ × Held). e.0) es
+entry_hrefs [] = refl
+entry_hrefs (e ∷ es) = ap (λ (l : List (List ℕ)). e.0 ∷ l) (entry_hrefs es)
+
+pub listed_rise : (m : SideState) (entries : List Entry) (found : List Fetched) → entries ≡ map entry_of (fin.entries m.content) → map (λ (f : Fetched). f.href) found ≡ map (λ (e : Entry). e.href) entries → IsRising (map (λ (f : Fetched). f.href) found)
+listed_rise m entries found is same =
+    subst IsRising (sym (same ∙ (ap (λ (l : List Entry). map (λ (e : Entry). e.href) l) is ∙ entry_hrefs (fin.entries m.content)))) (sorted_hrefs (fin.entries m.content) (entries_sorted m.content))

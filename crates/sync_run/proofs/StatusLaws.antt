@@ -1,7 +1,7 @@
 -- What a run leaves of its status.
 use Rattle.std.proofs.Common.{◌≡◌, ◌⊎◌, inl, inr, Bool, true, false, List, [], ◌∷◌, Ok, Err, refl, sym, ◌∙◌, ap, subst}
 use Rattle.outside.specs.Runs.{Leads, Runs, Anything}
-use Rattle.outside.proofs.Runs.{KeepsEvents, Runs-refl, Runs-trans, Runs-weaker, Runs-one, Runs-both, Runs-first}
+use Rattle.outside.proofs.Runs.{KeepsEvents, Runs-refl, Runs-trans, Runs-weaker, Runs-one, Runs-both, Runs-first, Runs-kind_at}
 use Rattle.store_model.specs.Sides.{SideState, Evolves, IsNoWrite}
 use Rattle.status_keeper.specs.declared.row.Row.{Row}
 use Rattle.status_keeper.specs.declared.keeper.KeeperError.{KeeperError}
@@ -14,8 +14,9 @@ use Rattle.sync_plan.specs.declared.report.Line.{Line}
 use Rattle.sync_plan.specs.declared.report.JobEnd.{JobEnd}
 use Rattle.sync_plan.specs.declared.report.JobEnd.TheVariants.{Synced, Refused, NotCommitted, NoMemory}
 use Rattle.sync_run.specs.Ends.{IsRefused}
-use Rattle.sync_run.specs.Jobs.{StatusEnd, IsLoaded, Commits, StatusDone, IsMadeRow, IsAnyIdent, JobRun, StatusStep, ChangesNothing}
-use Rattle.sync_run.proofs.Glue.{RowStep-refl}
+use Rattle.sync_run.specs.Jobs.{StatusEnd, IsLoaded, Commits, StatusDone, IsHeldRow, IsAnyIdent, JobRun, StatusStep, ChangesNothing}
+use Rattle.sync_run.proofs.Glue.{RowStep-refl, RowStep-weaker}
+use Rattle.sync_run.proofs.JobLaws.{made_row_is_held}
 
 keeper_keeps : KeepsEvents status.happens
 keeper_keeps =
@@ -29,6 +30,10 @@ keeper_keeps =
       either = λ e is. cc;
     }
 
+-- each event of a run of a kind is of that kind
+pub kind_of_status : {Kind : KeeperEvent → Type 0} {s m t : status.KeeperState} (e : KeeperEvent) → status.Evolves Kind s t → status.Evolves status.IsEdit s m → status.IsTrueEvent m e → Runs status.happens status.IsTrueEvent Anything (status.happens m e) t → Kind e
+kind_of_status e whole first is_true later = Runs-kind_at keeper_keeps {e = e} whole (Runs-weaker (λ x h. tt) first) is_true later
+
 -- no event is an edit and our own
 no_events : {s t : status.KeeperState} → Runs status.happens status.IsTrueEvent (λ e. status.IsOwn e × status.IsEdit e) s t → t ≡ s
 no_events {s} {t} run = by s run.events run.leads
@@ -39,7 +44,7 @@ no_events {s} {t} run = by s run.events run.leads
     by s (Committed rows ∷ es) leads = absurd leads.0.1
 
 -- where nothing was edited from outside, edits have changed nothing
-unedited : {s m t : status.KeeperState} → status.Evolves status.IsOwn s t → status.Evolves status.IsEdit s m → Runs status.happens status.IsTrueEvent Anything m t → m ≡ s
+pub unedited : {s m t : status.KeeperState} → status.Evolves status.IsOwn s t → status.Evolves status.IsEdit s m → Runs status.happens status.IsTrueEvent Anything m t → m ≡ s
 unedited {s} {m} {t} whole edits later = no_events (Runs-both keeper_keeps (Runs-first keeper_keeps whole (Runs-weaker (λ e h. tt) edits) later) edits)
 
 answered : (error : KeeperError) (s m t : status.KeeperState) (rows : List Row) → status.Evolves status.IsEdit s m → status_calls.CommitAnswer m t rows (Err error) → status.Evolves status.IsEdit s t ⊎ Commits rows s t
@@ -87,7 +92,7 @@ status_steps {a} {a'} {b} {b'} {k} {k'} {end} rows job own kept = at (one_commit
         record {
           after = job.after;
           kept = ap (λ (s : status.KeeperState). s.kept) commits.is;
-          step = subst (λ (l : List Row). RowStep (IsMadeRow a a' b b') IsAnyIdent l job.after) (sym before) job.step;
+          step = subst (λ (l : List Row). RowStep (IsHeldRow a a' b b') IsAnyIdent l job.after) (sym before) (RowStep-weaker (λ row made. record { made = made; held = λ at_a at_b. made_row_is_held row job at_a at_b made }) (λ ident kept. kept) job.step);
         }
 
 pub nothing_changed : {a a' b b' : SideState} {k k' : status.KeeperState} {end : JobEnd} {lines : List Line} → JobRun a a' b b' k k' end lines → IsRefused end → ChangesNothing a a' b b' k k' lines

@@ -5,6 +5,8 @@ use Rattle.item_text.specs.Items.{ItemValue, item_of}
 use Rattle.store_model.specs.declared.event.Held.{Held}
 use Rattle.store_model.specs.declared.event.StoreEvent.{StoreEvent}
 use Rattle.store_model.specs.declared.event.StoreEvent.TheVariants.{Edited, Toggled, Wrote, Read}
+use Rattle.store_model.specs.declared.store.Fetched.{Fetched}
+use Rattle.store_model.specs.StoreCalls.{WasFetched}
 use Rattle.store_model.specs.Sides.{SideState, happens, IsTrueEvent, Evolves, Since, IsNoWrite, Sometime, WasRead, Lacks, HoldsAt, HoldsText, IsTextOf, IsUntouching, HasNone, WritesAtMostOne}
 use Rattle.status_keeper.specs.declared.row.Row.{Row}
 use Rattle.status_keeper.specs.declared.keeper.KeeperError.{KeeperError}
@@ -23,6 +25,7 @@ use Rattle.sync_plan.specs.declared.report.Refusal.TheVariants.{SameLocation, St
 use Rattle.sync_plan.specs.declared.report.JobEnd.{JobEnd}
 use Rattle.sync_plan.specs.declared.report.JobEnd.TheVariants.{Synced, Refused, NotCommitted, NoMemory}
 use Rattle.sync_run.specs.Ends.{IsFullEnd, IsRefused, IsUnloaded}
+use Rattle.sync_run.specs.Plans.{hrefs_of, IsPlanEnd}
 use Rattle.sync_run.specs.Reads.{IsTrueLoad, IsShown}
 use Rattle.sync_run.specs.Steps.{HasLine, IsOther, IsVouched, HoldsItem, line_idents, HasCause}
 
@@ -104,10 +107,19 @@ IsLoaded end a' read_a b' read_b loaded k' before = (loaded.kept ≡ Ok before) 
 abbrev pub StandsAt : List ℕ → List ℕ → SideState → Type 0
 StandsAt ident href m = (held : Held) × HoldsAt href held m × IsTextOf ident held.text
 
--- at moments from s to t items of the ident stood at both hrefs
-pub record StoodTwice (ident first second : List ℕ) (s t : SideState) : Type 0 where
-  pub at_first : Sometime (StandsAt ident first) s t
-  pub at_second : Sometime (StandsAt ident second) s t
+-- what the reading of a side gave: each item stood and was read, an ident that none of them has was lacked, and the hrefs rise
+pub record WasReadAs (s t : SideState) (found : List Fetched) : Type 0 where
+  pub fetched : AllByRecursion (WasFetched s t) found
+  pub lacks : (ident : List ℕ) → AllByRecursion (λ f. f.item.ident ≢ ident) found → Lacks ident s t
+  pub rise : IsRising (hrefs_of found)
+
+-- of what was read of both sides this is so
+pub record WasReadSo (a read_a b read_b : SideState) (So : List Fetched → List Fetched → Type 0) : Type 0 where
+  pub found_a : List Fetched
+  pub found_b : List Fetched
+  pub was_read_a : WasReadAs a read_a found_a
+  pub was_read_b : WasReadAs b read_b found_b
+  pub so : So found_a found_b
 
 -- a refusal names what was so
 abbrev pub IsTrueRefusal : SideState → SideState → SideState → SideState → status.KeeperState → List Row → Refusal → Type 0
@@ -115,9 +127,8 @@ IsTrueRefusal a read_a b read_b loaded before SameLocation = ⊥
 IsTrueRefusal a read_a b read_b loaded before (Status error) = IsTrueLoad loaded error
 IsTrueRefusal a read_a b read_b loaded before (Storage A error) = IsShown a read_a error
 IsTrueRefusal a read_a b read_b loaded before (Storage B error) = IsShown b read_b error
-IsTrueRefusal a read_a b read_b loaded before (SameIdent A ident first second) = StoodTwice ident first second a read_a
-IsTrueRefusal a read_a b read_b loaded before (SameIdent B ident first second) = StoodTwice ident first second b read_b
-IsTrueRefusal a read_a b read_b loaded before (NotBuilt ident) = Unit {0}
+IsTrueRefusal a read_a b read_b loaded before (SameIdent side ident first second) = WasReadSo a read_a b read_b (λ found_a found_b. IsPlanEnd found_a found_b before (Refused (SameIdent side ident first second)))
+IsTrueRefusal a read_a b read_b loaded before (NotBuilt ident) = WasReadSo a read_a b read_b (λ found_a found_b. IsPlanEnd found_a found_b before (Refused (NotBuilt ident)))
 
 -- one run of one job: it loads the status and reads both sides, then it only copies, and commits last
 pub record JobRun (a a' b b' : SideState) (k k' : status.KeeperState) (end : JobEnd) (lines : List Line) : Type 0 where
@@ -194,11 +205,17 @@ pub record Commits (rows : List Row) (s t : status.KeeperState) : Type 0 where
 abbrev pub StatusDone : status.KeeperState → status.KeeperState → List Row → List Row → Type 0
 StatusDone s t before after = status.Evolves status.IsEdit s t ⊎ ((after ≢ before) × Commits after s t)
 
--- the rows at exit: for each ident the one at entry, or one whose version each side held in this run, with vouched hrefs and etags
+-- a row that the run made; where no edit from outside touches its ident, both sides hold its version at exit
+pub record IsHeldRow (a a' b b' : SideState) (row : Row) : Type 0 where
+  pub made : IsMadeRow a a' b b' row
+  pub held : IsUntouched row.ident a a' → IsUntouched row.ident b b' → Holds row.ident (row.fp).0 a' × Holds row.ident (row.fp).0 b'
+
+-- the rows at exit: for each ident the one at entry, or one whose version each side held in this run, with vouched hrefs and etags.
+-- No row is dropped so far: an ident that both sides lack and that has a row refuses the job
 pub record StatusStep (a a' b b' : SideState) (k' : status.KeeperState) (rows : List Row) : Type 0 where
   pub after : List Row
   pub kept : k'.kept ≡ Ok after
-  pub step : RowStep (IsMadeRow a a' b b') IsAnyIdent rows after
+  pub step : RowStep (IsHeldRow a a' b b') IsAnyIdent rows after
 
 -- a job that was refused has left edits from outside alone
 pub record ChangesNothing (a a' b b' : SideState) (k k' : status.KeeperState) (lines : List Line) : Type 0 where

@@ -77,6 +77,11 @@ IsStepFor cell (CopyTo B from) = (cell.a ≡ Some from) × (cell.b ≡ None) × 
 abbrev pub IsNotBuilt : Cell → Type 0
 IsNotBuilt cell = (step : Step) → IsStepFor cell step → ⊥
 
+-- a cell of an ident that one side alone has: `to` is the other side
+abbrev pub lone_cell : Side → Fetched → Option Row → Cell
+lone_cell A from row = record { a = None; b = Some from; row = row }
+lone_cell B from row = record { a = Some from; b = None; row = row }
+
 abbrev pub IsFoundOf : List ℕ → Option Fetched → Type 0
 IsFoundOf ident None = Unit {0}
 IsFoundOf ident (Some f) = f.item.ident ≡ ident
@@ -264,29 +269,6 @@ NamesTwins side x y (Refused (NotBuilt ident)) = ⊥
 NamesTwins side x y NoMemory = Unit {0}
 NamesTwins side x y Synced = ⊥
 NamesTwins side x y (NotCommitted error) = ⊥
-
--- an end of a side whose items don't have distinct idents
-abbrev pub IsTwinEnd : Side → List Fetched → JobEnd → Type 0
-IsTwinEnd side found (Refused (SameIdent at ident first second)) = (at ≡ side) × IsTwin found ident first second
-IsTwinEnd side found (Refused (Storage at error)) = ⊥
-IsTwinEnd side found (Refused (Status error)) = ⊥
-IsTwinEnd side found (Refused SameLocation) = ⊥
-IsTwinEnd side found (Refused (NotBuilt ident)) = ⊥
-IsTwinEnd side found NoMemory = Unit {0}
-IsTwinEnd side found Synced = ⊥
-IsTwinEnd side found (NotCommitted error) = ⊥
-
--- an end before the steps are planned
-abbrev pub IsPlanEnd : List Fetched → List Fetched → JobEnd → Type 0
-IsPlanEnd a b (Refused (SameIdent A ident first second)) = IsTwin a ident first second
-IsPlanEnd a b (Refused (SameIdent B ident first second)) = IsTwin b ident first second
-IsPlanEnd a b (Refused (Storage at error)) = ⊥
-IsPlanEnd a b (Refused (Status error)) = ⊥
-IsPlanEnd a b (Refused SameLocation) = ⊥
-IsPlanEnd a b (Refused (NotBuilt ident)) = Unit {0}
-IsPlanEnd a b NoMemory = Unit {0}
-IsPlanEnd a b Synced = ⊥
-IsPlanEnd a b (NotCommitted error) = ⊥
 
 -- the ident at this place does not rise above the one before
 abbrev pub IsNotRisingAt : List Fetched → ℕ → Type 0

@@ -9,5 +9,6 @@ mod reading;
 
 pub use job::sync_collection;
 pub use laws::{
-    commits_are_due, refused_changes_nothing, rows_are_by_step, rows_are_held, writes_are_due,
+    commits_are_due, quiet_runs_complete, refused_changes_nothing, rows_are_by_step, rows_are_held,
+    writes_are_due,
 };

@@ -1,13 +1,13 @@
 //! What is to be done for each ident.
 
 ghost use Rattle.std.specs.Prelude.{IsTrue, ◌↔◌, ◌≡◌, ◌-◌, ◌++◌, [], ℕ, List, OnOk, IfOk, IfErr, IfSome, IfNone, ◌<◌, MatchOption, MatchResult, filter_map, All, option_to_list, slice_get, length, true, false};
-ghost use Rattle.std.specs.List.Sorted.{IsPermutation, IsSortedByKey};
-ghost use Rattle.std.specs.Ordering.{nat_cmp};
-ghost use Rattle.std.specs.Cmp.Lexicographic.{slice_cmp};
-ghost use Rattle.status_keeper.specs.Idents.{IsRising, IsFalling};
+ghost use Rattle.std.specs.List.Sorted.{IsPermutation, IsSorted};
+ghost use Rattle.std.specs.List.{AllAdjacentBelow};
+ghost use Rattle.status_keeper.specs.Idents.{Precedes, IsRising, IsFalling};
 ghost use Rattle.status_keeper.specs.Rows.{row_idents};
 ghost use Rattle.sync_run.specs.Ends.{Never, IsCausedEnd, IsEarlyEnd};
-ghost use Rattle.sync_run.specs.Steps.{rows_of, on_a, on_b, texts, greater_text, is_text, last_found, last_row, which_of, IsPlanned, IsCellOf, IsOther, IsStepFor, IsNotBuilt, IsPopped, IsTwin, IsNotRisingAt, NamesTwins, NamesUnbuilt, ident_in, IsTwinEnd, IsPlanEnd, idents_of, step_idents};
+ghost use Rattle.sync_run.specs.Steps.{rows_of, on_a, on_b, texts, greater_text, is_text, last_found, last_row, which_of, IsPlanned, IsCellOf, IsOther, IsStepFor, IsNotBuilt, IsPopped, lone_cell, IsNotRisingAt, NamesTwins, NamesUnbuilt, ident_in, idents_of, step_idents};
+ghost use Rattle.sync_run.specs.Plans.{AreBuilt, fetched_cmp, IsTwinEnd, IsPlanEnd};
 
 use status_keeper::Row;
 use std::alloc::{AllocError, Global};
@@ -137,6 +137,56 @@ fn is_other(found: &Fetched, row: &Option<Row>) -> bool
     }
 }
 
+/// The step for an ident that both sides have, or its cell where the step is not built.
+fn decide_both(a: Fetched, b: Fetched, row: Option<Row>) -> Result<Planned, Cell>
+    ensures ok { IfOk result (λ p. IsStepFor (record { a = Some a; b = Some b; row = row }) p.step × (p.row ≡ row)) }
+    ensures err { IfErr result (λ c. (c ≡ record { a = Some a; b = Some b; row = row }) × IsNotBuilt c) }
+{
+    if a.item.fp() == b.item.fp() {
+        return Ok(Planned {
+            row,
+            step: Step::Keep { a, b },
+        });
+    }
+    Err(Cell {
+        a: Some(a),
+        b: Some(b),
+        row,
+    })
+}
+
+/// The cell of an ident that all but one side, `to`, has.
+fn lone(to: Side, from: Fetched, row: Option<Row>) -> Cell
+    ensures { result ≡ lone_cell to from row }
+{
+    match to {
+        Side::A => Cell {
+            a: None,
+            b: Some(from),
+            row,
+        },
+        Side::B => Cell {
+            a: Some(from),
+            b: None,
+            row,
+        },
+    }
+}
+
+/// The step for an ident that one side alone has, where `to` is the other side.
+fn decide_one(to: Side, from: Fetched, row: Option<Row>) -> Result<Planned, Cell>
+    ensures ok { IfOk result (λ p. IsStepFor (lone_cell to from row) p.step × (p.row ≡ row)) }
+    ensures err { IfErr result (λ c. (c ≡ lone_cell to from row) × IsNotBuilt c) }
+{
+    if !is_other(&from, &row) {
+        return Err(lone(to, from, row));
+    }
+    Ok(Planned {
+        row,
+        step: Step::CopyTo { side: to, from },
+    })
+}
+
 /// The step for a cell, or the cell where its step is not built.
 fn decide(cell: Cell) -> Result<Planned, Cell>
     ensures ok { IfOk result (λ p. IsStepFor cell p.step × (p.row ≡ cell.row)) }
@@ -144,54 +194,9 @@ fn decide(cell: Cell) -> Result<Planned, Cell>
 {
     let Cell { a, b, row } = cell;
     match (a, b) {
-        (Some(a), Some(b)) => {
-            if a.item.fp() == b.item.fp() {
-                Ok(Planned {
-                    row,
-                    step: Step::Keep { a, b },
-                })
-            } else {
-                Err(Cell {
-                    a: Some(a),
-                    b: Some(b),
-                    row,
-                })
-            }
-        }
-        (Some(a), None) => {
-            if is_other(&a, &row) {
-                Ok(Planned {
-                    row,
-                    step: Step::CopyTo {
-                        side: Side::B,
-                        from: a,
-                    },
-                })
-            } else {
-                Err(Cell {
-                    a: Some(a),
-                    b: None,
-                    row,
-                })
-            }
-        }
-        (None, Some(b)) => {
-            if is_other(&b, &row) {
-                Ok(Planned {
-                    row,
-                    step: Step::CopyTo {
-                        side: Side::A,
-                        from: b,
-                    },
-                })
-            } else {
-                Err(Cell {
-                    a: None,
-                    b: Some(b),
-                    row,
-                })
-            }
-        }
+        (Some(a), Some(b)) => decide_both(a, b, row),
+        (Some(a), None) => decide_one(Side::B, a, row),
+        (None, Some(b)) => decide_one(Side::A, b, row),
         (None, None) => Err(Cell {
             a: None,
             b: None,
@@ -229,6 +234,7 @@ fn first_not_rising(found: &[Fetched]) -> Option<usize>
     ensures none { IfNone result (IsRising (idents_of found.now)) }
     ensures place { IfSome result (λ i. (0 < i) × (i < length found.now)) }
     ensures not_rising { IfSome result (λ i. IsNotRisingAt found.now i) }
+    ensures before { IfSome result (AllAdjacentBelow (λ f g. Precedes f.item.ident g.item.ident) found.now) }
 {
     for i in 1..found.len() {
         if found[i - 1].item.ident().cmp(found[i].item.ident()) != Ordering::Less {
@@ -261,12 +267,19 @@ fn same_ident(alloc: Global, side: Side, first: &Fetched, second: &Fetched) -> J
     })
 }
 
-/// Sorts by ident; what has one ident keeps its order.
+/// Compares idents, and the hrefs of one ident.
+fn compare(x: &Fetched, y: &Fetched) -> Ordering
+    ensures { result ≡ fetched_cmp x.now y.now }
+{
+    x.item.ident().cmp(y.item.ident()).then(x.href.cmp(&y.href))
+}
+
+/// Sorts by ident, and the items of one ident by href.
 fn sort_by_ident(found: &mut Vec<Fetched>) -> Result<(), AllocError>
     ensures permutation { IsPermutation found.old.items found.new.items }
-    ensures sorted { OnOk result (IsSortedByKey (λ f. f.item.ident) (slice_cmp nat_cmp) found.new.items) }
+    ensures sorted { OnOk result (IsSorted fetched_cmp found.new.items) }
 {
-    found.sort_by(|x, y| x.item.ident().cmp(y.item.ident()))
+    found.sort_by(|x, y| compare(x, y))
 }
 
 /// A side's items in rising order of idents; an ident that comes twice ends the job.
@@ -301,7 +314,8 @@ pub fn plan(
     ensures early { IfErr result IsEarlyEnd }
     ensures end { IfErr result (IsCausedEnd Never Never Never) }
     ensures one_ident { IfOk result (λ steps. All IsPlanned steps.items) }
-    ensures refused { IfErr result (IsPlanEnd a.items b.items) }
+    ensures built { OnOk result (AreBuilt a.items b.items rows.items) }
+    ensures refused { IfErr result (IsPlanEnd a.items b.items rows.items) }
 {
     let mut a = by_ident(alloc, Side::A, a)?;
     let mut b = by_ident(alloc, Side::B, b)?;

@@ -130,6 +130,8 @@ pub fn read_job<A: Store, B: Store, K: Keeper>(
     ensures keeper { KeeperChanges K.count K.tells K.state IsEdit keeper.old keeper.new }
     ensures lacks_a { A.tells a.old → IfOk result (λ r. (ident : List ℕ) → AllByRecursion (λ f. f.item.ident ≢ ident) r.a.items → Lacks ident (A.side a.old) (A.side a.new)) }
     ensures found_a { A.tells a.old → IfOk result (λ r. AllByRecursion (WasFetched (A.side a.old) (A.side a.new)) r.a.items) }
+    ensures rise_a { A.tells a.old → IfOk result (λ r. IsRising (map (λ f. f.href) r.a.items)) }
+    ensures rise_b { B.tells b.old → IfOk result (λ r. IsRising (map (λ f. f.href) r.b.items)) }
     ensures lacks_b { B.tells b.old → IfOk result (λ r. (ident : List ℕ) → AllByRecursion (λ f. f.item.ident ≢ ident) r.b.items → Lacks ident (B.side b.old) (B.side b.new)) }
     ensures found_b { B.tells b.old → IfOk result (λ r. AllByRecursion (WasFetched (B.side b.old) (B.side b.new)) r.b.items) }
     ensures rows { K.tells keeper.old → IfOk result (λ r. (K.state keeper.new).kept ≡ Ok r.rows.items) }

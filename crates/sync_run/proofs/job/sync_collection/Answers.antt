@@ -18,7 +18,7 @@ returns-in-Err-clause-job g c a b k =
 
 pub returns-in-Err-plan-clause-job : goal.returns-in-Err-plan-clause-job
 returns-in-Err-plan-clause-job g c a b k =
-    plan_failed c.in-Ok.reading.rows.items _ _ _ c.ended-in-Err-plan.ensures.end c.ended-in-Err-plan.ensures.lines (c.read_job.ensures.a.told a).1 (c.read_job.ensures.b.told b).1 (c.read_job.ensures.keeper.told k).1 (c.in-Ok.ensures.rows k) c.in-Err-plan.ensures.early c.in-Ok.reading.a.items c.in-Ok.reading.b.items (c.in-Ok.ensures.found_a a) (c.in-Ok.ensures.found_b b) c.in-Err-plan.ensures.refused
+    plan_failed c.in-Ok.reading.rows.items _ _ _ c.ended-in-Err-plan.ensures.end c.ended-in-Err-plan.ensures.lines (c.read_job.ensures.a.told a).1 (c.read_job.ensures.b.told b).1 (c.read_job.ensures.keeper.told k).1 (c.in-Ok.ensures.rows k) c.in-Err-plan.ensures.early c.in-Ok.reading.a.items c.in-Ok.reading.b.items (record { fetched = c.in-Ok.ensures.found_a a; lacks = c.in-Ok.ensures.lacks_a a; rise = c.in-Ok.ensures.rise_a a }) (record { fetched = c.in-Ok.ensures.found_b b; lacks = c.in-Ok.ensures.lacks_b b; rise = c.in-Ok.ensures.rise_b b }) c.in-Err-plan.ensures.refused
 
 pub returns-in-Ok-run_steps-clause-job : goal.returns-in-Ok-run_steps-clause-job
 returns-in-Ok-run_steps-clause-job g c a b k =

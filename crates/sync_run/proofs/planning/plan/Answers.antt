@@ -1,9 +1,11 @@
-use Rattle.std.proofs.Common.{◌≡◌, ◌++◌, ◌∷◌, [], List, All, arith, subst, sym}
+use Rattle.std.proofs.Common.{◌≡◌, ◌++◌, ◌∷◌, [], List, All, arith, rules, subst, sym}
 use Rattle.std.proofs.lemmas.List.Elements.{All-push}
+use Rattle.std.proofs.lemmas.Result.{err_from_is_err_and}
 use Rattle.sync_run.specs.declared.planning.Planned.{Planned}
 use Rattle.sync_run.specs.Steps.{IsPlanned}
 use Rattle.sync_run.proofs.Cells.{is_planned, moved_a, moved_b, moved_row, order_more, order_rest}
-use Rattle.sync_run.proofs.Twins.{not_built_end}
+use Rattle.sync_run.proofs.Least.{unsearched, searched_step, searched_refused, all_built, refused_end}
+use Rattle.sync_run.proofs.Twins.{no_twin, plan_end_b}
 use Rattle.sync_run.proofs.planning.plan.Goals as goal
 
 pub loop-cell-preserved-else-is_err : goal.loop-cell-preserved-else-is_err
@@ -18,6 +20,7 @@ loop-cell-preserved-else-is_err c =
       a = λ none. moved_a _ _ _ c.loop-cell.steps.items _ p c.in-Some.cell pushed popped.from_a step.0 (c.loop-cell.invariant.a none);
       b = λ none. moved_b _ _ _ c.loop-cell.steps.items _ p c.in-Some.cell pushed popped.from_b step.0 (c.loop-cell.invariant.b none);
       rows = λ none. moved_row _ _ _ c.loop-cell.steps.items _ p c.in-Some.cell pushed popped.from_rows step.1 (c.loop-cell.invariant.rows none);
+      searched = searched_step _ _ _ _ _ _ _ _ _ c.loop-cell.steps.items _ c.in-Some.cell p.step popped c.loop-cell.invariant.order step.0 c.loop-cell.invariant.searched;
     }
 
 pub returns-clause-falling : goal.returns-clause-falling
@@ -31,7 +34,40 @@ loop-cell-preserved c =
       a = λ none. cc;
       b = λ none. cc;
       rows = λ none. cc;
+      searched = searched_refused _ _ _ _ _ _ _ _ _ c.loop-cell.steps.items _ c.in-Some.cell c.in-Err.cell c.in-Err.ensures.err.0 c.in-Some.ensures c.loop-cell.invariant.order c.in-Err.ensures.err.1 c.loop-cell.invariant.searched;
     }
 
+pub loop-cell-init : goal.loop-cell-init
+loop-cell-init c =
+    record {
+      order = record {
+        rising_a = c.in_ok-a.ensures.rising;
+        rising_b = c.in_ok-b.ensures.rising;
+        rising_rows = c.requires;
+        falling = rw c.new-steps.ensures.items tt;
+        above_a = rw c.new-steps.ensures.items tt;
+        above_b = rw c.new-steps.ensures.items tt;
+      };
+      planned = search rules;
+      a = λ none. search rules;
+      b = λ none. search rules;
+      rows = λ none. search rules;
+      searched = unsearched c.in_ok-a.a.items c.in_ok-b.b.items c.args.rows.items;
+    }
+
+pub returns-clause-built : goal.returns-clause-built
+returns-clause-built c =
+    all_built c.args.a.items c.args.b.items c.in_ok-a.a.items c.in_ok-b.b.items c.loop-cell.a.items c.loop-cell.b.items c.args.rows.items c.loop-cell.rows.items c.loop-cell.refused
+    (record { perm_a = c.in_ok-a.ensures.same; perm_b = c.in_ok-b.ensures.same; rising_a = c.in_ok-a.ensures.rising; rising_b = c.in_ok-b.ensures.rising })
+    c.in_default.ensures.0 c.in_default.ensures.1 c.in_default.ensures.2 c.in-None.is c.loop-cell.invariant.searched
+
+pub returns-in_err-b-clause-refused : goal.returns-in_err-b-clause-refused
+returns-in_err-b-clause-refused c =
+    let p = err_from_is_err_and c.from_residual-in_err-b.result c.from_residual-in_err-b.ensures.1 in
+    rw (p.1, p.2) (plan_end_b c.args.a.items c.args.b.items c.args.rows.items c.in_err-b.field-0.0 (no_twin c.args.a.items c.in_ok-a.a.items c.in_ok-a.ensures.same c.in_ok-a.ensures.rising) c.in_err-b.ensures.twins)
+
 pub returns-in-Some-refused-clause-refused : goal.returns-in-Some-refused-clause-refused
-returns-in-Some-refused-clause-refused c = not_built_end c.args.a.items c.args.b.items c.in-Some-refused.cell c.not_built.result c.not_built.ensures.names
+returns-in-Some-refused-clause-refused c =
+    refused_end c.args.a.items c.args.b.items c.in_ok-a.a.items c.in_ok-b.b.items c.loop-cell.a.items c.loop-cell.b.items c.args.rows.items c.loop-cell.rows.items c.loop-cell.refused c.in-Some-refused.cell c.not_built.result
+    (record { perm_a = c.in_ok-a.ensures.same; perm_b = c.in_ok-b.ensures.same; rising_a = c.in_ok-a.ensures.rising; rising_b = c.in_ok-b.ensures.rising })
+    c.in_default.ensures.0 c.in_default.ensures.1 c.in_default.ensures.2 c.in-Some-refused.is c.loop-cell.invariant.searched c.not_built.ensures.names

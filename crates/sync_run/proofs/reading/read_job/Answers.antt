@@ -2,7 +2,7 @@ use Rattle.store_model.proofs.Known.{read_known}
 use Rattle.store_model.proofs.Moments.{Changes-trans, Since-from_evolves, Evolves-refl, Evolves-trans, all_fetched_extends, all_got_fetched}
 use Rattle.store_model.proofs.Lacks.{Evolves-rest, unread_is_lacked}
 use Rattle.sync_plan.specs.declared.report.Side.TheVariants.{A, B}
-use Rattle.sync_run.proofs.ReadLemmas.{got_end}
+use Rattle.sync_run.proofs.ReadLemmas.{got_end, listed_rise}
 use Rattle.std.proofs.lemmas.Result.{err_from_is_err_and}
 use Rattle.sync_run.proofs.reading.read_job.Goals as goal
 
@@ -80,3 +80,13 @@ pub returns-clause-known_b : goal.returns-clause-known_b
 returns-clause-known_b g c told =
     let mid = c.list_side-2.ensures.store.told told in
     read_known (g.B.Store.taken c.list_side-2.new.store) (g.B.Store.taken c.get_side-2.new.store) _ _ _ (c.get_side-2.ensures.store.told mid.0).1 c.get_side-2.ensures.taken (c.in_ok-entries_b.ensures.known told) (Since-from_evolves mid.1)
+
+pub returns-clause-rise_a : goal.returns-clause-rise_a
+returns-clause-rise_a g c told =
+    let mid = c.list_side.ensures.store.told told in
+    listed_rise (c.in_ok-entries_a.ensures.listed told).moment c.in_ok-entries_a.entries_a.items _ ((c.in_ok-entries_a.ensures.listed told).was.0.1) (c.in_ok-found_a.ensures.hrefs mid.0)
+
+pub returns-clause-rise_b : goal.returns-clause-rise_b
+returns-clause-rise_b g c told =
+    let mid = c.list_side-2.ensures.store.told told in
+    listed_rise (c.in_ok-entries_b.ensures.listed told).moment c.in_ok-entries_b.entries_b.items _ ((c.in_ok-entries_b.ensures.listed told).was.0.1) (c.in_ok-found_b.ensures.hrefs mid.0)
