@@ -13,7 +13,7 @@ use Rattle.vdirsyncer_cli.specs.Words.{folder_of, name_of}
 use Rattle.vdirsyncer_cli.specs.Words.WordsValue.{sync}
 use Rattle.vdirsyncer_cli.specs.ConfigRead.{ConfigRead, HasEndings}
 use Rattle.vdir_store.specs.Names.{is_ending}
-use Rattle.vdirsyncer_cli.specs.Jobs.{JobAt}
+use Rattle.vdirsyncer_cli.specs.Jobs.{IsTold, JobAt}
 use Rattle.vdirsyncer_cli.specs.declared.config.ConfigError.TheVariants as config_error
 use Rattle.vdirsyncer_cli.specs.Texts.{config_text}
 use Rattle.vdirsyncer_cli.specs.Runs.{job_of, memory_line, WordsRun, Refuses, Finishes, TellsStarved}
@@ -25,12 +25,17 @@ use Rattle.vdirsyncer_cli.proofs.JobLaws.{step_told}
 pub silent : {S : Type 0} (count : S → ℕ) (tells : S → Type 0) (held : S → List ℕ) (s : S) → Prints count tells held s s [] Whole
 silent count tells held s = (omega arith, λ told. (told, sym (append-nil (held s))))
 
+told_more : (t0 t1 : List ℕ → Type 0) (job : Job) → StayTold t0 t1 → IsTold t0 job → IsTold t1 job
+told_more t0 t1 job stay told = record { speaks_a = told.speaks_a; speaks_b = told.speaks_b; tells_a = stay job.a told.tells_a; tells_b = stay job.b told.tells_b; tells_s = stay job.status told.tells_s }
+
 -- a job of which less was told at entry
 pub job_told : (old new : Places) (t0 t1 t2 : List ℕ → Type 0) (job : Job) (report : Report) → StayTold t0 t1 → JobAt old new t1 t2 job report → JobAt old new t0 t2 job report
 job_told old new t0 t1 t2 job report stay (inl ran) =
     inl (record {
       apart = ran.apart;
       step = step_told _ _ _ _ _ _ _ _ _ _ _ _ _ _ _ _ _ _ _ _ report (stay job.a) (λ x. x) (stay job.b) (λ x. x) (stay job.status) (λ x. x) ran.step;
+      rows = λ told rows kept own. ran.rows (told_more t0 t1 job stay told) rows kept own;
+      complete = λ told rows ready quiet fits. ran.complete (told_more t0 t1 job stay told) rows ready quiet fits;
       others = ran.others;
       others_tell = λ q x y z told. ran.others_tell q x y z (stay q told);
     })
