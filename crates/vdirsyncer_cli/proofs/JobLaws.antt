@@ -146,20 +146,20 @@ pub ran_of : {D : Type 0} (count : D → ℕ) (tells_of : D → Type 0) (state :
 ran_of count tells_of state old mid new t0 t1 t2 job a b s dirs back report ea eb es apart out over given =
     let step : JobStep job.ending_a job.ending_b (place_at old job.a) (place_at new job.a) (place_at old job.b) (place_at new job.b) (place_at old job.status) (place_at new job.status) (t0 job.a) (t2 job.a) (t0 job.b) (t2 job.b) (t0 job.status) (t2 job.status) report =
     step_at _ _ _ _ _ _ _ _ _ _ _ _ _ _ _ _ _ _ _ _ report
-          (stands_at old job.a _ (ap old (sym ea) ∙ out.at_a))
-          (stands_at new job.a _ (ap new (sym ea) ∙ given.at_a))
-          (stands_at old job.b _ (ap old (sym eb) ∙ out.at_b))
-          (stands_at new job.b _ (ap new (sym eb) ∙ given.at_b))
-          (stands_at old job.status _ (ap old (sym es) ∙ out.at_s))
-          (stands_at new job.status _ (ap new (sym es) ∙ given.at_s))
-          (step_told _ _ _ _ _ _ _ _ _ _ _ _ _ _ _ _ _ _ _ _ report
-          (λ told. out.tells_a (subst t0 (sym ea) told))
-          (λ told. subst t2 ea (given.tells_a told))
-          (λ told. out.tells_b (subst t0 (sym eb) told))
-          (λ told. subst t2 eb (given.tells_b told))
-          (λ told. out.tells_s (subst t0 (sym es) told))
-          (λ told. subst t2 es (given.tells_s told))
-          over)
+    (stands_at old job.a _ (ap old (sym ea) ∙ out.at_a))
+    (stands_at new job.a _ (ap new (sym ea) ∙ given.at_a))
+    (stands_at old job.b _ (ap old (sym eb) ∙ out.at_b))
+    (stands_at new job.b _ (ap new (sym eb) ∙ given.at_b))
+    (stands_at old job.status _ (ap old (sym es) ∙ out.at_s))
+    (stands_at new job.status _ (ap new (sym es) ∙ given.at_s))
+    (step_told _ _ _ _ _ _ _ _ _ _ _ _ _ _ _ _ _ _ _ _ report
+    (λ told. out.tells_a (subst t0 (sym ea) told))
+    (λ told. subst t2 ea (given.tells_a told))
+    (λ told. out.tells_b (subst t0 (sym eb) told))
+    (λ told. subst t2 eb (given.tells_b told))
+    (λ told. out.tells_s (subst t0 (sym es) told))
+    (λ told. subst t2 es (given.tells_s told))
+    over)
     in
     record {
       apart = apart;

@@ -7,3 +7,4 @@ pub mod JobLaws
 pub mod Endings
 pub mod ConfigLaws
 pub mod WordsLaws
+pub mod CleanLaws

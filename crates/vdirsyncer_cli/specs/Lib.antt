@@ -9,3 +9,4 @@ pub mod Words
 pub mod Jobs
 pub mod ConfigRead
 pub mod Runs
+pub mod CleanRuns

@@ -2,6 +2,7 @@
 
 ghost use Rattle.std.specs.Prelude.{◌≡◌};
 ghost use Rattle.outside.specs.Places.{IsWhole};
+ghost use Rattle.vdirsyncer_cli.specs.CleanRuns.{CompleteRun, SinkIsStill, SinkIsSilent};
 ghost use Rattle.vdirsyncer_cli.specs.Printing.{Prints};
 ghost use Rattle.vdirsyncer_cli.specs.Runs.{WordsRun, Refuses, Finishes, TellsStarved, cut_status, job_status};
 ghost use Rattle.vdirsyncer_cli.specs.Words.{words_of};
@@ -123,15 +124,11 @@ fn sync<O: Outfit, S: Sink, E: Sink>(
     }
 }
 
-/// Runs the program: reads the words and the configuration, runs the job, prints its report, and answers the exit
-/// status: 0 where the job is in sync without lines, 1 where not or where a write to `out` failed, 2 for wrong words,
-/// 3 for want of memory. The environment and the input serve words that are not built yet.
-pub fn run_words<O: Outfit, I: Source, S: Sink, E: Sink>(
+/// What `run_words` does: the words and the configuration are read, the job is run, and its report is printed.
+fn do_words<O: Outfit, S: Sink, E: Sink>(
     alloc: Global,
     words: &[Text],
-    _env: &Env,
     outfit: &mut O,
-    _input: &mut I,
     out: &mut S,
     err: &mut E,
 ) -> u8
@@ -148,4 +145,28 @@ pub fn run_words<O: Outfit, I: Source, S: Sink, E: Sink>(
         Words::Help => status_of_cut(print(out, usage())),
         Words::Sync { file } => sync(alloc, file, outfit, out, err),
     }
+}
+
+/// Runs the program: reads the words and the configuration, runs the job, prints its report, and answers the exit
+/// status: 0 where the job is in sync without lines, 1 where not or where a write to `out` failed, 2 for wrong words,
+/// 3 for want of memory. The environment and the input serve words that are not built yet.
+pub fn run_words<O: Outfit, I: Source, S: Sink, E: Sink>(
+    alloc: Global,
+    words: &[Text],
+    _env: &Env,
+    outfit: &mut O,
+    _input: &mut I,
+    out: &mut S,
+    err: &mut E,
+) -> u8
+    requires { IsWhole (O.places outfit.old) }
+    ensures whole { IsWhole (O.places outfit.new) }
+    ensures run { WordsRun (O.places outfit.old) (O.places outfit.new) (O.tells outfit.old) (O.tells outfit.new) (words_of words.now)
+        (Prints S.count S.tells S.held out.old out.new) (Prints E.count E.tells E.held err.old err.new) result }
+    ensures complete { CompleteRun (O.places outfit.old) (O.places outfit.new) (O.tells outfit.old) (O.tells outfit.new) (words_of words.now)
+        (Prints S.count S.tells S.held out.old out.new) (Prints E.count E.tells E.held err.old err.new)
+        (SinkIsStill S.count out.old out.new × SinkIsStill E.count err.old err.new)
+        (SinkIsSilent S.tells S.held out.old out.new × SinkIsSilent E.tells E.held err.old err.new) result }
+{
+    do_words(alloc, words, outfit, out, err)
 }

@@ -1,0 +1,80 @@
+-- When a run of the program is undisturbed over a ready job, and what it then leaves (this project's own).
+use Rattle.std.specs.Prelude.{◌≡◌, ◌≤◌, ◌⊎◌, ℕ, List, length, Option, Some, Result, Ok, Err}
+use Rattle.std.specs.FinMap as fin
+use Rattle.outside.specs.Causes.{Rose}
+use Rattle.outside.specs.Files.{FolderState, Evolves}
+use Rattle.outside.specs.declared.folder.FolderEvent.{FolderEvent}
+use Rattle.outside.specs.declared.folder.FolderEvent.TheVariants as folder_event
+use Rattle.outside.specs.Places.{Place}
+use Rattle.status_keeper.specs.declared.row.Row.{Row}
+use Rattle.sync_plan.specs.declared.report.Report.{Report}
+use Rattle.sync_run.specs.Ready.{IsReadyJob, IsClean}
+use Rattle.vdirsyncer_cli.specs.declared.config.JobConfig.{JobConfig}
+use Rattle.vdirsyncer_cli.specs.declared.job.Cut.{Cut}
+use Rattle.vdirsyncer_cli.specs.declared.job.Job.{Job}
+use Rattle.vdirsyncer_cli.specs.Configs.{ConfigValue, lines_of, IsConfig}
+use Rattle.vdirsyncer_cli.specs.ConfigRead.{config_limit}
+use Rattle.vdirsyncer_cli.specs.Jobs.{IsTold, IsQuietJob, RowsFit, side_a, side_b, status_of_job}
+use Rattle.vdirsyncer_cli.specs.Places.{Places, place_at}
+use Rattle.vdirsyncer_cli.specs.Runs.{Ended, Did, WordsRun, job_of}
+use Rattle.vdirsyncer_cli.specs.Runs.Ended.{WrongWords, HelpAsked, ConfigRefused, OutOfMemory, JobEnded}
+use Rattle.vdirsyncer_cli.specs.SamePlace.{IsSamePlace}
+use Rattle.vdirsyncer_cli.specs.Words.{WordsValue, folder_of, name_of}
+
+-- no edit from outside
+abbrev pub IsInside : FolderEvent → Type 0
+IsInside (folder_event.Edited name old new) = ⊥
+IsInside folder_event.Toggled = ⊥
+IsInside (folder_event.Wrote name old new) = Unit {0}
+IsInside (folder_event.Read name bytes) = Unit {0}
+IsInside folder_event.Made = Unit {0}
+
+-- the file of the configuration stands there, is of the form, and nothing disturbs its reading, which ends at these places
+pub record IsQuietReading (old now : Places) (tells : List ℕ → Type 0) (file : List ℕ) : Type 0 where
+  pub told : tells (folder_of file)
+  pub still : Rose (place_at old (folder_of file)).faults (place_at now (folder_of file)).faults → ⊥
+  pub unedited : Evolves IsInside (place_at old (folder_of file)).state (place_at now (folder_of file)).state
+  pub bytes : List ℕ
+  pub stands : fin.get ((place_at old (folder_of file)).state).files (name_of file) ≡ Some bytes
+  pub fits : length bytes ≤ config_limit
+  pub value : ConfigValue
+  pub is_config : IsConfig (lines_of bytes) value
+
+-- a job over three places that differ is ready, and its run is quiet
+pub record IsCleanJob (old new : Places) (tells : List ℕ → Type 0) (job : Job) (report : Report) : Type 0 where
+  pub apart : IsSamePlace job.a job.b job.status → ⊥
+  pub told : IsTold tells job
+  pub rows : List Row
+  pub ready : IsReadyJob (side_a old job) (side_b old job) (status_of_job old job) rows
+  pub quiet : IsQuietJob old new job
+  pub rows_fit : RowsFit old new job report
+
+-- valid words, a valid configuration, and a ready job, all of them undisturbed
+abbrev pub IsUndisturbed : (old new : Places) (tells tells' : List ℕ → Type 0) (asked : WordsValue) (ended : Ended) → Did old new tells tells' asked ended → Type 0
+IsUndisturbed old new tells tells' asked WrongWords did = ⊥
+IsUndisturbed old new tells tells' asked HelpAsked did = ⊥
+IsUndisturbed old new tells tells' asked (ConfigRefused file e) did = IsQuietReading old new tells file
+IsUndisturbed old new tells tells' asked OutOfMemory did = Unit {0}
+IsUndisturbed old new tells tells' asked (JobEnded config report) did = IsQuietReading old did.1 tells did.0 × IsCleanJob did.1 new tells (job_of config) report
+
+-- the job of the run is clean: in sync without lines, both sides and the rows at what each ident is due
+abbrev pub LeavesClean : (old new : Places) (tells tells' : List ℕ → Type 0) (asked : WordsValue) (ended : Ended) → Did old new tells tells' asked ended → Type 0
+LeavesClean old new tells tells' asked WrongWords did = ⊥
+LeavesClean old new tells tells' asked HelpAsked did = ⊥
+LeavesClean old new tells tells' asked (ConfigRefused file e) did = ⊥
+LeavesClean old new tells tells' asked OutOfMemory did = ⊥
+LeavesClean old new tells tells' asked (JobEnded config report) did =
+    (rows : List Row) × ((status_of_job did.1 (job_of config)).kept ≡ Ok rows) × IsClean (side_a did.1 (job_of config)) (side_a new (job_of config)) (side_b did.1 (job_of config)) (side_b new (job_of config)) rows (status_of_job new (job_of config)) report.end report.lines.items
+
+-- one run of the program: where it is undisturbed and the sinks are still, it prints nothing, answers 0 and leaves its job clean; or it answers 3
+pub record CompleteRun (old new : Places) (tells tells' : List ℕ → Type 0) (asked : WordsValue) (PrintsOut PrintsErr : List ℕ → Cut → Type 0) (AreStill AreSilent : Type 0) (result : ℕ) : Type 0 where
+  pub run : WordsRun old new tells tells' asked PrintsOut PrintsErr result
+  pub complete : AreStill → IsUndisturbed old new tells tells' asked run.ended run.did → (result ≡ 3) ⊎ ((result ≡ 0) × AreSilent × LeavesClean old new tells tells' asked run.ended run.did)
+
+-- no count of the sinks rose
+abbrev pub SinkIsStill : {S : Type 0} → (S → ℕ) → S → S → Type 0
+SinkIsStill count old new = Rose (count old) (count new) → ⊥
+
+-- nothing was written to a sink that tells what it holds
+abbrev pub SinkIsSilent : {S : Type 0} → (S → Type 0) → (S → List ℕ) → S → S → Type 0
+SinkIsSilent tells held old new = tells old → held new ≡ held old
