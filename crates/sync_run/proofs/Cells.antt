@@ -308,7 +308,7 @@ step_above a b a' b' rows rows' steps cell (Keep x y) popped order step = found_
 step_above a b a' b' rows rows' steps cell (CopyTo A from) popped order step = found_above b b' cell.b from (step_idents steps) popped.from_b step.1 order.above_b
 step_above a b a' b' rows rows' steps cell (CopyTo B from) popped order step = found_above a a' cell.a from (step_idents steps) popped.from_a step.0 order.above_a
 
-step_is_of : (ident : List ℕ) (cell : Cell) (s : Step) → IsCellOf ident cell → IsStepFor cell s → step_ident s ≡ ident
+pub step_is_of : (ident : List ℕ) (cell : Cell) (s : Step) → IsCellOf ident cell → IsStepFor cell s → step_ident s ≡ ident
 step_is_of ident cell (Keep a b) one h = subst (λ (o : Option Fetched). IsFoundOf ident o) h.0 one.a
 step_is_of ident cell (CopyTo A from) one h = subst (λ (o : Option Fetched). IsFoundOf ident o) h.1 one.b
 step_is_of ident cell (CopyTo B from) one h = subst (λ (o : Option Fetched). IsFoundOf ident o) h.0 one.a

@@ -10,6 +10,8 @@ pub mod Lines
 pub mod ReadLemmas
 pub mod Commits
 pub mod Twins
+pub mod Seen
+pub mod Decided
 pub mod Least
 pub mod StatusLaws
 pub mod LineCauses

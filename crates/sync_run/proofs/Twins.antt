@@ -1,5 +1,5 @@
 -- The first two items of one ident, found by a sort.
-use Rattle.std.proofs.Common.{◌≡◌, ◌≤◌, ◌<◌, ◌+◌, ◌-◌, ◌⊎◌, inl, inr, ℕ, zero, suc, Bool, true, false, Result, Ok, Err, OnOk, is_err, List, [], ◌∷◌, Contains, length, get_or, slice_index_or, map, refl, sym, ◌∙◌, ap, subst, arith}
+use Rattle.std.proofs.Common.{◌≡◌, ◌≤◌, ◌<◌, ◌+◌, ◌-◌, ◌⊎◌, inl, inr, ℕ, zero, suc, Bool, true, false, Result, Ok, Err, OnOk, is_err, List, [], ◌∷◌, Contains, length, get_or, slice_index_or, refl, sym, ◌∙◌, ap, subst, arith}
 use Rattle.std.specs.Ordering.{nat_cmp, is_lt, ordering_reverse, ordering_then}
 use Rattle.std.specs.Cmp.{IsStrictWeakOrder, tied_itself}
 use Rattle.std.specs.declared.cmp.Ordering.{Ordering}
@@ -223,17 +223,6 @@ twin_end side found x y (Refused (NotBuilt ident)) twin names = names
 twin_end side found x y NoMemory twin names = tt
 twin_end side found x y Synced twin names = names
 twin_end side found x y (NotCommitted error) twin names = names
-
-pub plan_end_a : (a b : List Fetched) (rows : List Row) (end : JobEnd) → IsTwinEnd A a end → IsPlanEnd a b rows end
-plan_end_a a b rows (Refused (SameIdent A ident first second)) h = h.1
-plan_end_a a b rows (Refused (SameIdent B ident first second)) h = absurd (let clash : B ≡ A = h.0 in cc)
-plan_end_a a b rows (Refused (Storage at error)) h = h
-plan_end_a a b rows (Refused (Status error)) h = h
-plan_end_a a b rows (Refused SameLocation) h = h
-plan_end_a a b rows (Refused (NotBuilt ident)) h = absurd h
-plan_end_a a b rows NoMemory h = tt
-plan_end_a a b rows Synced h = h
-plan_end_a a b rows (NotCommitted error) h = h
 
 pub plan_end_b : (a b : List Fetched) (rows : List Row) (end : JobEnd) → HasNoTwin a → IsTwinEnd B b end → IsPlanEnd a b rows end
 plan_end_b a b rows (Refused (SameIdent A ident first second)) none h = absurd (let clash : A ≡ B = h.0 in cc)

@@ -1,5 +1,5 @@
 -- What was read of each ident, the least ident whose step isn't built, and the first ident that comes twice.
-use Rattle.std.specs.Prelude.{◌≡◌, ◌⊎◌, ℕ, Bool, true, false, List, Option, Some, None, Contains, map, option_map}
+use Rattle.std.specs.Prelude.{◌≡◌, ◌⊎◌, ℕ, true, false, List, Option, Some, None, Contains, map, option_map}
 use Rattle.std.specs.Ordering.{nat_cmp, on, then_cmp}
 use Rattle.std.specs.Cmp.Lexicographic.{slice_cmp}
 use Rattle.std.specs.declared.cmp.Ordering.{Ordering}
@@ -10,12 +10,16 @@ use Rattle.status_keeper.specs.Idents.{Precedes}
 use Rattle.status_keeper.specs.Rows.{row_of}
 use Rattle.status_keeper.specs.declared.row.Row.{Row}
 use Rattle.sync_plan.specs.Table.{Versions, is_built}
+use Rattle.sync_plan.specs.Table as table
 use Rattle.sync_plan.specs.declared.report.Side.{Side}
 use Rattle.sync_plan.specs.declared.report.Side.TheVariants.{A, B}
 use Rattle.sync_plan.specs.declared.report.Refusal.TheVariants.{SameLocation, Status, Storage, SameIdent, NotBuilt}
 use Rattle.sync_plan.specs.declared.report.JobEnd.{JobEnd}
 use Rattle.sync_plan.specs.declared.report.JobEnd.TheVariants.{Synced, Refused, NotCommitted, NoMemory}
-use Rattle.sync_run.specs.Steps.{idents_of, IsTwin}
+use Rattle.sync_run.specs.declared.planning.Planned.{Planned}
+use Rattle.sync_run.specs.declared.planning.Step.{Step}
+use Rattle.sync_run.specs.declared.planning.Step.TheVariants.{Keep, CopyTo}
+use Rattle.sync_run.specs.Steps.{idents_of, step_ident, IsTwin}
 
 -- which version the items that were read have under an ident: that of one of them, or none has the ident
 abbrev pub FoundAs : List ℕ → List Fetched → Option (List ℕ) → Type 0
@@ -32,6 +36,15 @@ pub record Seen (ident : List ℕ) (a b : List Fetched) (rows : List Row) (v : V
 abbrev pub AreBuilt : List Fetched → List Fetched → List Row → Type 0
 AreBuilt a b rows = (ident : List ℕ) (v : Versions) → Seen ident a b rows v → is_built v ≡ true
 
+-- the step as the table names it
+abbrev pub table_step : Step → table.Step
+table_step (Keep a b) = table.Keep
+table_step (CopyTo side from) = table.CopyTo side
+
+-- the step is the one that the table gives for what was read of its ident
+abbrev pub IsByTable : List Fetched → List Fetched → List Row → Planned → Type 0
+IsByTable a b rows p = (v : Versions) → Seen (step_ident p.step) a b rows v → (table.table v).step ≡ table_step p.step
+
 -- the ident is the least of those whose step isn't built
 pub record IsLeastUnbuilt (a b : List Fetched) (rows : List Row) (ident : List ℕ) : Type 0 where
   pub versions : Versions
@@ -45,6 +58,12 @@ hrefs_of found = map (λ f. f.href) found
 -- each ident comes once
 abbrev pub HasNoTwin : List Fetched → Type 0
 HasNoTwin found = IsDistinct bytes_eq (idents_of found)
+
+-- all can be planned: on each side each ident comes once, and each ident's step is built
+pub record IsPlannable (a b : List Fetched) (rows : List Row) : Type 0 where
+  pub once_a : HasNoTwin a
+  pub once_b : HasNoTwin b
+  pub built : AreBuilt a b rows
 
 -- two of the items have the ident: the first two of its hrefs in byte order, which differ where the items have distinct hrefs; and no lesser ident comes twice
 pub record IsFirstTwin (found : List Fetched) (ident first second : List ℕ) : Type 0 where

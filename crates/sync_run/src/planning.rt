@@ -7,7 +7,7 @@ ghost use Rattle.status_keeper.specs.Idents.{Precedes, IsRising, IsFalling};
 ghost use Rattle.status_keeper.specs.Rows.{row_idents};
 ghost use Rattle.sync_run.specs.Ends.{Never, IsCausedEnd, IsEarlyEnd};
 ghost use Rattle.sync_run.specs.Steps.{rows_of, on_a, on_b, texts, greater_text, is_text, last_found, last_row, which_of, IsPlanned, IsCellOf, IsOther, IsStepFor, IsNotBuilt, IsPopped, lone_cell, IsNotRisingAt, NamesTwins, NamesUnbuilt, ident_in, idents_of, step_idents};
-ghost use Rattle.sync_run.specs.Plans.{AreBuilt, fetched_cmp, IsTwinEnd, IsPlanEnd};
+ghost use Rattle.sync_run.specs.Plans.{fetched_cmp, IsByTable, IsPlannable, IsTwinEnd, IsPlanEnd};
 
 use status_keeper::Row;
 use std::alloc::{AllocError, Global};
@@ -300,6 +300,9 @@ fn by_ident(alloc: Global, side: Side, mut found: Vec<Fetched>) -> Result<Vec<Fe
 }
 
 /// One step for each ident, in falling order of idents.
+///
+/// A side with two items of one ident ends the job, side A before side B, and after both the least
+/// ident whose step is not built.
 pub fn plan(
     alloc: Global,
     a: Vec<Fetched>,
@@ -314,7 +317,8 @@ pub fn plan(
     ensures early { IfErr result IsEarlyEnd }
     ensures end { IfErr result (IsCausedEnd Never Never Never) }
     ensures one_ident { IfOk result (λ steps. All IsPlanned steps.items) }
-    ensures built { OnOk result (AreBuilt a.items b.items rows.items) }
+    ensures by_table { IfOk result (λ steps. All (IsByTable a.items b.items rows.items) steps.items) }
+    ensures plannable { OnOk result (IsPlannable a.items b.items rows.items) }
     ensures refused { IfErr result (IsPlanEnd a.items b.items rows.items) }
 {
     let mut a = by_ident(alloc, Side::A, a)?;

@@ -4,7 +4,7 @@ use Rattle.std.proofs.lemmas.Result.{err_from_is_err_and}
 use Rattle.sync_run.specs.declared.planning.Planned.{Planned}
 use Rattle.sync_run.specs.Steps.{IsPlanned}
 use Rattle.sync_run.proofs.Cells.{is_planned, moved_a, moved_b, moved_row, order_more, order_rest}
-use Rattle.sync_run.proofs.Least.{unsearched, searched_step, searched_refused, all_built, refused_end}
+use Rattle.sync_run.proofs.Least.{IsTabled, by_table, plannable, refused_end, searched_refused, searched_step, tabled, unsearched}
 use Rattle.sync_run.proofs.Twins.{no_twin, plan_end_b}
 use Rattle.sync_run.proofs.planning.plan.Goals as goal
 
@@ -17,6 +17,7 @@ loop-cell-preserved-else-is_err c =
     record {
       order = order_more _ _ _ _ _ _ c.loop-cell.steps.items _ c.in-Some.cell p popped step.0 pushed c.loop-cell.invariant.order;
       planned = subst (λ (l : List Planned). All IsPlanned l) (sym pushed) (All-push IsPlanned c.loop-cell.steps.items p c.loop-cell.invariant.planned (is_planned popped.ident c.in-Some.cell p popped.of_one step.0 step.1));
+      by_table = subst (λ (l : List Planned). All (IsTabled c.in_ok-a.a.items c.in_ok-b.b.items c.args.rows.items) l) (sym pushed) (All-push (IsTabled c.in_ok-a.a.items c.in_ok-b.b.items c.args.rows.items) c.loop-cell.steps.items p c.loop-cell.invariant.by_table (tabled _ _ _ _ _ _ _ _ _ c.loop-cell.steps.items _ c.in-Some.cell p popped c.loop-cell.invariant.order step.0 c.loop-cell.invariant.searched));
       a = λ none. moved_a _ _ _ c.loop-cell.steps.items _ p c.in-Some.cell pushed popped.from_a step.0 (c.loop-cell.invariant.a none);
       b = λ none. moved_b _ _ _ c.loop-cell.steps.items _ p c.in-Some.cell pushed popped.from_b step.0 (c.loop-cell.invariant.b none);
       rows = λ none. moved_row _ _ _ c.loop-cell.steps.items _ p c.in-Some.cell pushed popped.from_rows step.1 (c.loop-cell.invariant.rows none);
@@ -31,6 +32,7 @@ loop-cell-preserved c =
     record {
       order = order_rest _ _ _ _ _ _ c.loop-cell.steps.items c.in-Some.cell c.in-Some.ensures c.loop-cell.invariant.order;
       planned = c.loop-cell.invariant.planned;
+      by_table = c.loop-cell.invariant.by_table;
       a = λ none. cc;
       b = λ none. cc;
       rows = λ none. cc;
@@ -49,15 +51,22 @@ loop-cell-init c =
         above_b = rw c.new-steps.ensures.items tt;
       };
       planned = search rules;
+      by_table = search rules;
       a = λ none. search rules;
       b = λ none. search rules;
       rows = λ none. search rules;
       searched = unsearched c.in_ok-a.a.items c.in_ok-b.b.items c.args.rows.items;
     }
 
-pub returns-clause-built : goal.returns-clause-built
-returns-clause-built c =
-    all_built c.args.a.items c.args.b.items c.in_ok-a.a.items c.in_ok-b.b.items c.loop-cell.a.items c.loop-cell.b.items c.args.rows.items c.loop-cell.rows.items c.loop-cell.refused
+pub returns-clause-by_table : goal.returns-clause-by_table
+returns-clause-by_table c =
+    by_table c.args.a.items c.args.b.items c.in_ok-a.a.items c.in_ok-b.b.items c.args.rows.items c.loop-cell.steps.items
+    (record { perm_a = c.in_ok-a.ensures.same; perm_b = c.in_ok-b.ensures.same; rising_a = c.in_ok-a.ensures.rising; rising_b = c.in_ok-b.ensures.rising })
+    c.loop-cell.invariant.by_table
+
+pub returns-clause-plannable : goal.returns-clause-plannable
+returns-clause-plannable c =
+    plannable c.args.a.items c.args.b.items c.in_ok-a.a.items c.in_ok-b.b.items c.loop-cell.a.items c.loop-cell.b.items c.args.rows.items c.loop-cell.rows.items c.loop-cell.refused
     (record { perm_a = c.in_ok-a.ensures.same; perm_b = c.in_ok-b.ensures.same; rising_a = c.in_ok-a.ensures.rising; rising_b = c.in_ok-b.ensures.rising })
     c.in_default.ensures.0 c.in_default.ensures.1 c.in_default.ensures.2 c.in-None.is c.loop-cell.invariant.searched
 
