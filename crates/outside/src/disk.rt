@@ -62,22 +62,62 @@ fn listed<R: Files + AllocGlobal + Clone + Drop>(
     Ok(Some(names))
 }
 
+/// A file that stands open, and its length just before.
+struct Found<F> {
+    file: F,
+    len: u64,
+}
+
+/// Opens the file under a path. `None` where no file is there.
+fn open_file<R: Files>(rt: &R, path: &str) -> io::Result<Option<Found<R::File>>> {
+    let len = match fs::metadata(rt, path) {
+        Ok(found) if found.is_file() => found.len(),
+        Ok(_) => return Ok(None),
+        Err(error) if is_absent(&error) => return Ok(None),
+        Err(error) => return Err(error),
+    };
+    match File::open(rt, path) {
+        Ok(file) => Ok(Some(Found { file, len })),
+        Err(error) if is_absent(&error) => Ok(None),
+        Err(error) => Err(error),
+    }
+}
+
+/// One read. What a signal cuts off has read nothing.
+fn read_once<F: Read>(file: &mut F, room: &mut [u8]) -> io::Result<usize> {
+    match file.read(room) {
+        Err(error) if error.kind() == ErrorKind::Interrupted => Ok(0),
+        read => read,
+    }
+}
+
+/// Puts a file's bytes, but no more than one above the limit, in the place of those in `bytes`.
+/// Where one read, with room for a byte more, gives as many as the file had, it has met the end.
+fn read_whole<F: Read + Drop>(found: Found<F>, limit: u64, bytes: &mut Vec<u8>) -> io::Result<()> {
+    let Found { mut file, len } = found;
+    let most = limit.saturating_add(1);
+    let room = most.min(len.saturating_add(1));
+    bytes.resize(room as usize, 0)?;
+    let read = read_once(&mut file, bytes.as_mut_slice())?;
+    bytes.truncate(read);
+    if read == 0 || read as u64 != len {
+        file.take(most.saturating_sub(read as u64))
+            .read_to_end(bytes)?;
+    }
+    Ok(())
+}
+
 /// The bytes of a file, but no more than one above the limit. `None` where no file is there.
 fn read_path<R: Files + AllocGlobal>(
     rt: &R,
     path: &str,
     limit: u64,
 ) -> io::Result<Option<Vec<u8>>> {
-    if kind_of(rt, path)? != Kind::File {
+    let Some(found) = open_file(rt, path)? else {
         return Ok(None);
-    }
-    let file = match File::open(rt, path) {
-        Ok(file) => file,
-        Err(error) if is_absent(&error) => return Ok(None),
-        Err(error) => return Err(error),
     };
     let mut bytes = Vec::new(rt.alloc());
-    file.take(limit.saturating_add(1)).read_to_end(&mut bytes)?;
+    read_whole(found, limit, &mut bytes)?;
     Ok(Some(bytes))
 }
 
@@ -89,12 +129,17 @@ fn etag<R: AllocGlobal>(rt: &R, bytes: &[u8]) -> io::Result<Text> {
     }
 }
 
-/// The etag of a file. `None` where no file is there.
-fn etag_at<R: Files + AllocGlobal>(rt: &R, path: &str) -> io::Result<Option<Text>> {
-    match read_path(rt, path, u64::MAX)? {
-        None => Ok(None),
-        Some(bytes) => Ok(Some(etag(rt, bytes.as_slice())?)),
-    }
+/// The etag of a file, whose bytes take the place of those in `bytes`. `None` where no file is there.
+fn etag_at<R: Files + AllocGlobal>(
+    rt: &R,
+    path: &str,
+    bytes: &mut Vec<u8>,
+) -> io::Result<Option<Text>> {
+    let Some(found) = open_file(rt, path)? else {
+        return Ok(None);
+    };
+    read_whole(found, u64::MAX, bytes)?;
+    Ok(Some(etag(rt, bytes.as_slice())?))
 }
 
 /// The files whose name ends so, in byte order of names. A file that is gone when it is read is left out.
@@ -107,9 +152,10 @@ pub fn entries<R: Files + AllocGlobal + Clone + Drop>(
         return Ok(None);
     };
     let mut entries = Vec::new(rt.alloc());
+    let mut bytes = Vec::new(rt.alloc());
     for name in names {
         let path = path_of(rt, folder, name.as_str())?;
-        if let Some(etag) = etag_at(rt, path.as_str())? {
+        if let Some(etag) = etag_at(rt, path.as_str(), &mut bytes)? {
             let name = Text::of(name);
             entries.push(FileEntry { name, etag })?;
         }
@@ -148,7 +194,8 @@ pub fn read_file<R: Files + AllocGlobal>(
 
 /// Whether a file is there with this etag.
 fn has_etag<R: Files + AllocGlobal>(rt: &R, path: &str, tag: &str) -> io::Result<bool> {
-    match etag_at(rt, path)? {
+    let mut bytes = Vec::new(rt.alloc());
+    match etag_at(rt, path, &mut bytes)? {
         None => Ok(false),
         Some(etag) => Ok(etag.as_str() == tag),
     }
