@@ -201,16 +201,8 @@ fn has_etag<R: Files + AllocGlobal>(rt: &R, path: &str, tag: &str) -> io::Result
     }
 }
 
-/// Whether the file is as a conditional write expects it.
-fn meets<R: Files + AllocGlobal>(
-    rt: &R,
-    folder: &str,
-    path: &str,
-    expect: Expect,
-) -> io::Result<bool> {
-    if kind_of(rt, folder)? != Kind::Folder {
-        return Ok(false);
-    }
+/// Whether the file is as a conditional write expects it, where the folder is there.
+fn meets<R: Files + AllocGlobal>(rt: &R, path: &str, expect: Expect) -> io::Result<bool> {
     match expect {
         Expect::Absent => Ok(kind_of(rt, path)? != Kind::File),
         Expect::Etag(tag) => has_etag(rt, path, tag),
@@ -222,32 +214,69 @@ fn sync_folder<R: Files>(rt: &R, folder: &str) -> io::Result<()> {
     File::open(rt, folder)?.sync_all()
 }
 
-/// Fills the file beside, with the permissions of the file whose name it is to take, and carries it to the disk.
-fn fill<R: Files>(rt: &R, mut file: R::File, path: &str, bytes: &[u8]) -> io::Result<()> {
-    if let Ok(found) = fs::metadata(rt, path) {
-        file.set_permissions(found.permissions())?;
+/// Makes the file beside, which is not to be there.
+fn create_beside<R: Files>(rt: &R, beside: &str) -> io::Result<R::File> {
+    let mut options = OpenOptions::new();
+    options.write(true).create_new(true);
+    match options.open(rt, beside) {
+        Err(error) if error.kind() == ErrorKind::AlreadyExists => {
+            // What a write that was cut off has left there goes, and isn't written through where it is a link.
+            let _ = fs::remove_file(rt, beside);
+            options.open(rt, beside)
+        }
+        made => made,
+    }
+}
+
+/// Gives a file the permissions of the one whose name it is to take.
+fn keep_permissions<R: Files>(rt: &R, file: &R::File, path: &str) -> io::Result<()> {
+    match fs::metadata(rt, path) {
+        Ok(found) => file.set_permissions(found.permissions()),
+        Err(_) => Ok(()),
+    }
+}
+
+/// Fills the file beside, and carries it to the disk.
+fn fill<R: Files>(
+    rt: &R,
+    mut file: R::File,
+    path: &str,
+    expect: Expect,
+    bytes: &[u8],
+) -> io::Result<()> {
+    match expect {
+        Expect::Absent => {}
+        Expect::Etag(_) => keep_permissions(rt, &file, path)?,
     }
     file.write_all(bytes)?;
     file.sync_all()
 }
 
 /// Writes the file whole: first beside it, from where it then takes the file's name.
-fn write_whole<R: Files + AllocGlobal>(rt: &R, path: &str, bytes: &[u8]) -> io::Result<()> {
-    let beside = format!(in rt.alloc(); "{path}.tmp")?;
-    // What a write that was cut off has left there goes, and isn't written through where it is a link.
-    let _ = fs::remove_file(rt, beside.as_str());
-    let mut options = OpenOptions::new();
-    options.write(true).create_new(true);
-    let file = options.open(rt, beside.as_str())?;
-    let filled = fill(rt, file, path, bytes);
-    let done = match filled {
-        Ok(()) => fs::rename(rt, beside.as_str(), path),
+fn write_whole<R: Files>(
+    rt: &R,
+    file: R::File,
+    beside: &str,
+    path: &str,
+    expect: Expect,
+    bytes: &[u8],
+) -> io::Result<()> {
+    let done = match fill(rt, file, path, expect, bytes) {
+        Ok(()) => fs::rename(rt, beside, path),
         Err(error) => Err(error),
     };
     if done.is_err() {
-        let _ = fs::remove_file(rt, beside.as_str());
+        let _ = fs::remove_file(rt, beside);
     }
     done
+}
+
+/// Whether a file could not be made since its folder isn't there.
+fn lacks_folder<R: Files>(rt: &R, folder: &str, error: &io::Error) -> io::Result<bool> {
+    if !is_absent(error) {
+        return Ok(false);
+    }
+    Ok(kind_of(rt, folder)? != Kind::Folder)
 }
 
 /// Replaces a file that is as it was expected.
@@ -259,10 +288,16 @@ pub fn replace_file<R: Files + AllocGlobal>(
     new: &[u8],
 ) -> io::Result<Change> {
     let path = path_of(rt, folder, name)?;
-    if !meets(rt, folder, path.as_str(), expect)? {
+    if !meets(rt, path.as_str(), expect)? {
         return Ok(Change::Moved);
     }
-    write_whole(rt, path.as_str(), new)?;
+    let beside = format!(in rt.alloc(); "{}.tmp", path.as_str())?;
+    let file = match create_beside(rt, beside.as_str()) {
+        Ok(file) => file,
+        Err(error) if lacks_folder(rt, folder, &error)? => return Ok(Change::Moved),
+        Err(error) => return Err(error),
+    };
+    write_whole(rt, file, beside.as_str(), path.as_str(), expect, new)?;
     sync_folder(rt, folder)?;
     Ok(Change::Done)
 }
