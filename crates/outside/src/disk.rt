@@ -62,22 +62,62 @@ fn listed<R: Files + AllocGlobal + Clone + Drop>(
     Ok(Some(names))
 }
 
+/// A file that stands open, and its length just before.
+struct Found<F> {
+    file: F,
+    len: u64,
+}
+
+/// Opens the file under a path. `None` where no file is there.
+fn open_file<R: Files>(rt: &R, path: &str) -> io::Result<Option<Found<R::File>>> {
+    let len = match fs::metadata(rt, path) {
+        Ok(found) if found.is_file() => found.len(),
+        Ok(_) => return Ok(None),
+        Err(error) if is_absent(&error) => return Ok(None),
+        Err(error) => return Err(error),
+    };
+    match File::open(rt, path) {
+        Ok(file) => Ok(Some(Found { file, len })),
+        Err(error) if is_absent(&error) => Ok(None),
+        Err(error) => Err(error),
+    }
+}
+
+/// One read. What a signal cuts off has read nothing.
+fn read_once<F: Read>(file: &mut F, room: &mut [u8]) -> io::Result<usize> {
+    match file.read(room) {
+        Err(error) if error.kind() == ErrorKind::Interrupted => Ok(0),
+        read => read,
+    }
+}
+
+/// Puts a file's bytes, but no more than one above the limit, in the place of those in `bytes`.
+/// Where one read, with room for a byte more, gives as many as the file had, it has met the end.
+fn read_whole<F: Read + Drop>(found: Found<F>, limit: u64, bytes: &mut Vec<u8>) -> io::Result<()> {
+    let Found { mut file, len } = found;
+    let most = limit.saturating_add(1);
+    let room = most.min(len.saturating_add(1));
+    bytes.resize(room as usize, 0)?;
+    let read = read_once(&mut file, bytes.as_mut_slice())?;
+    bytes.truncate(read);
+    if read == 0 || read as u64 != len {
+        file.take(most.saturating_sub(read as u64))
+            .read_to_end(bytes)?;
+    }
+    Ok(())
+}
+
 /// The bytes of a file, but no more than one above the limit. `None` where no file is there.
 fn read_path<R: Files + AllocGlobal>(
     rt: &R,
     path: &str,
     limit: u64,
 ) -> io::Result<Option<Vec<u8>>> {
-    if kind_of(rt, path)? != Kind::File {
+    let Some(found) = open_file(rt, path)? else {
         return Ok(None);
-    }
-    let file = match File::open(rt, path) {
-        Ok(file) => file,
-        Err(error) if is_absent(&error) => return Ok(None),
-        Err(error) => return Err(error),
     };
     let mut bytes = Vec::new(rt.alloc());
-    file.take(limit.saturating_add(1)).read_to_end(&mut bytes)?;
+    read_whole(found, limit, &mut bytes)?;
     Ok(Some(bytes))
 }
 
@@ -89,12 +129,17 @@ fn etag<R: AllocGlobal>(rt: &R, bytes: &[u8]) -> io::Result<Text> {
     }
 }
 
-/// The etag of a file. `None` where no file is there.
-fn etag_at<R: Files + AllocGlobal>(rt: &R, path: &str) -> io::Result<Option<Text>> {
-    match read_path(rt, path, u64::MAX)? {
-        None => Ok(None),
-        Some(bytes) => Ok(Some(etag(rt, bytes.as_slice())?)),
-    }
+/// The etag of a file, whose bytes take the place of those in `bytes`. `None` where no file is there.
+fn etag_at<R: Files + AllocGlobal>(
+    rt: &R,
+    path: &str,
+    bytes: &mut Vec<u8>,
+) -> io::Result<Option<Text>> {
+    let Some(found) = open_file(rt, path)? else {
+        return Ok(None);
+    };
+    read_whole(found, u64::MAX, bytes)?;
+    Ok(Some(etag(rt, bytes.as_slice())?))
 }
 
 /// The files whose name ends so, in byte order of names. A file that is gone when it is read is left out.
@@ -107,9 +152,10 @@ pub fn entries<R: Files + AllocGlobal + Clone + Drop>(
         return Ok(None);
     };
     let mut entries = Vec::new(rt.alloc());
+    let mut bytes = Vec::new(rt.alloc());
     for name in names {
         let path = path_of(rt, folder, name.as_str())?;
-        if let Some(etag) = etag_at(rt, path.as_str())? {
+        if let Some(etag) = etag_at(rt, path.as_str(), &mut bytes)? {
             let name = Text::of(name);
             entries.push(FileEntry { name, etag })?;
         }
@@ -148,22 +194,15 @@ pub fn read_file<R: Files + AllocGlobal>(
 
 /// Whether a file is there with this etag.
 fn has_etag<R: Files + AllocGlobal>(rt: &R, path: &str, tag: &str) -> io::Result<bool> {
-    match etag_at(rt, path)? {
+    let mut bytes = Vec::new(rt.alloc());
+    match etag_at(rt, path, &mut bytes)? {
         None => Ok(false),
         Some(etag) => Ok(etag.as_str() == tag),
     }
 }
 
-/// Whether the file is as a conditional write expects it.
-fn meets<R: Files + AllocGlobal>(
-    rt: &R,
-    folder: &str,
-    path: &str,
-    expect: Expect,
-) -> io::Result<bool> {
-    if kind_of(rt, folder)? != Kind::Folder {
-        return Ok(false);
-    }
+/// Whether the file is as a conditional write expects it, where the folder is there.
+fn meets<R: Files + AllocGlobal>(rt: &R, path: &str, expect: Expect) -> io::Result<bool> {
     match expect {
         Expect::Absent => Ok(kind_of(rt, path)? != Kind::File),
         Expect::Etag(tag) => has_etag(rt, path, tag),
@@ -175,32 +214,69 @@ fn sync_folder<R: Files>(rt: &R, folder: &str) -> io::Result<()> {
     File::open(rt, folder)?.sync_all()
 }
 
-/// Fills the file beside, with the permissions of the file whose name it is to take, and carries it to the disk.
-fn fill<R: Files>(rt: &R, mut file: R::File, path: &str, bytes: &[u8]) -> io::Result<()> {
-    if let Ok(found) = fs::metadata(rt, path) {
-        file.set_permissions(found.permissions())?;
+/// Makes the file beside, which is not to be there.
+fn create_beside<R: Files>(rt: &R, beside: &str) -> io::Result<R::File> {
+    let mut options = OpenOptions::new();
+    options.write(true).create_new(true);
+    match options.open(rt, beside) {
+        Err(error) if error.kind() == ErrorKind::AlreadyExists => {
+            // What a write that was cut off has left there goes, and isn't written through where it is a link.
+            let _ = fs::remove_file(rt, beside);
+            options.open(rt, beside)
+        }
+        made => made,
+    }
+}
+
+/// Gives a file the permissions of the one whose name it is to take.
+fn keep_permissions<R: Files>(rt: &R, file: &R::File, path: &str) -> io::Result<()> {
+    match fs::metadata(rt, path) {
+        Ok(found) => file.set_permissions(found.permissions()),
+        Err(_) => Ok(()),
+    }
+}
+
+/// Fills the file beside, and carries it to the disk.
+fn fill<R: Files>(
+    rt: &R,
+    mut file: R::File,
+    path: &str,
+    expect: Expect,
+    bytes: &[u8],
+) -> io::Result<()> {
+    match expect {
+        Expect::Absent => {}
+        Expect::Etag(_) => keep_permissions(rt, &file, path)?,
     }
     file.write_all(bytes)?;
     file.sync_all()
 }
 
 /// Writes the file whole: first beside it, from where it then takes the file's name.
-fn write_whole<R: Files + AllocGlobal>(rt: &R, path: &str, bytes: &[u8]) -> io::Result<()> {
-    let beside = format!(in rt.alloc(); "{path}.tmp")?;
-    // What a write that was cut off has left there goes, and isn't written through where it is a link.
-    let _ = fs::remove_file(rt, beside.as_str());
-    let mut options = OpenOptions::new();
-    options.write(true).create_new(true);
-    let file = options.open(rt, beside.as_str())?;
-    let filled = fill(rt, file, path, bytes);
-    let done = match filled {
-        Ok(()) => fs::rename(rt, beside.as_str(), path),
+fn write_whole<R: Files>(
+    rt: &R,
+    file: R::File,
+    beside: &str,
+    path: &str,
+    expect: Expect,
+    bytes: &[u8],
+) -> io::Result<()> {
+    let done = match fill(rt, file, path, expect, bytes) {
+        Ok(()) => fs::rename(rt, beside, path),
         Err(error) => Err(error),
     };
     if done.is_err() {
-        let _ = fs::remove_file(rt, beside.as_str());
+        let _ = fs::remove_file(rt, beside);
     }
     done
+}
+
+/// Whether a file could not be made since its folder isn't there.
+fn lacks_folder<R: Files>(rt: &R, folder: &str, error: &io::Error) -> io::Result<bool> {
+    if !is_absent(error) {
+        return Ok(false);
+    }
+    Ok(kind_of(rt, folder)? != Kind::Folder)
 }
 
 /// Replaces a file that is as it was expected.
@@ -212,10 +288,16 @@ pub fn replace_file<R: Files + AllocGlobal>(
     new: &[u8],
 ) -> io::Result<Change> {
     let path = path_of(rt, folder, name)?;
-    if !meets(rt, folder, path.as_str(), expect)? {
+    if !meets(rt, path.as_str(), expect)? {
         return Ok(Change::Moved);
     }
-    write_whole(rt, path.as_str(), new)?;
+    let beside = format!(in rt.alloc(); "{}.tmp", path.as_str())?;
+    let file = match create_beside(rt, beside.as_str()) {
+        Ok(file) => file,
+        Err(error) if lacks_folder(rt, folder, &error)? => return Ok(Change::Moved),
+        Err(error) => return Err(error),
+    };
+    write_whole(rt, file, beside.as_str(), path.as_str(), expect, new)?;
     sync_folder(rt, folder)?;
     Ok(Change::Done)
 }

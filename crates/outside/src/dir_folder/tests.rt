@@ -1,5 +1,6 @@
 use super::*;
-use std::os::unix::fs::symlink;
+use std::fs::Permissions;
+use std::os::unix::fs::{PermissionsExt, symlink};
 use std::process::Command;
 use std::test::Fail;
 use std::{env, fs, process};
@@ -138,6 +139,31 @@ fn links_count_as_what_they_lead_to(rt: HostRuntime) -> Result<(), Fail> {
     let kept = folder.read("a.vcf", 9)?.ok_or("no file")?;
     assert_eq!(rt; kept.as_slice(), b"abc".as_slice());
     clean(&rt, path.as_str())?;
+    Ok(())
+}
+
+#[test]
+fn a_file_that_is_replaced_keeps_its_permissions(rt: HostRuntime) -> Result<(), Fail> {
+    let path = scratch(&rt, "permissions")?;
+    let mut folder = opened(&rt, path.as_str())?;
+    folder.make()?;
+    let _ = folder.replace("a", Expect::Absent, b"abc")?;
+    let file = format!(in rt.alloc(); "{}/a", path.as_str())?;
+    fs::set_permissions(&rt, file.as_str(), Permissions::from_mode(0o600))?;
+    assert_eq!(rt; folder.replace("a", Expect::Etag(ABC), b"")?, Change::Done);
+    let mode = fs::metadata(&rt, file.as_str())?.permissions().mode();
+    assert_eq!(rt; mode % 0o1000, 0o600);
+    clean(&rt, path.as_str())?;
+    Ok(())
+}
+
+/// The system says of its own files that they have no bytes.
+#[test]
+fn a_file_is_read_beyond_the_length_it_is_said_to_have(rt: HostRuntime) -> Result<(), Fail> {
+    let mut folder = opened(&rt, "/proc")?;
+    let read = folder.read("version", 9_999)?.ok_or("no file")?;
+    assert!(rt; read.as_slice().starts_with(b"Linux"));
+    assert!(rt; matches!(folder.read("version", 4), Err(FolderError::TooLong)));
     Ok(())
 }
 
