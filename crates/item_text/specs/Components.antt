@@ -1,7 +1,7 @@
 -- Components: what each logical line of a text is, and in which components it stands.
 use Rattle.std.specs.Prelude.{ℕ, ◌==◌, Bool, false, ◌&&◌, ◌||◌, not, if◌then◌else◌, List, [], ◌∷◌, length, take, drop, map, codes, Option, Some, None, nat_lt}
 use Rattle.std.specs.Char.{to_ascii_uppercase}
-use Rattle.std.specs.List.{before_first}
+use Rattle.std.specs.List.{before_first, position_or_len}
 use Rattle.std.specs.Str.{bytes_eq}
 use Rattle.item_text.specs.Lines.{Line, trimmed}
 
@@ -16,8 +16,19 @@ begins_with word line = bytes_eq (upper (take (length word) line)) word
 abbrev pub is_colon : ℕ → Bool
 is_colon b = b == 58
 
+abbrev pub is_semicolon : ℕ → Bool
+is_semicolon b = b == 59
+
 abbrev pub ends_name : ℕ → Bool
 ends_name b = (b == 58) || (b == 59)
+
+abbrev pub has_colon : List ℕ → Bool
+has_colon line = nat_lt (position_or_len is_colon line) (length line)
+
+-- whether a double quote is open behind a text; `quoted`: whether one is open before it
+unfoldable pub quoted_behind : Bool → List ℕ → Bool
+quoted_behind quoted [] = quoted
+quoted_behind quoted (b ∷ bs) = if b == 34 then quoted_behind (not quoted) bs else quoted_behind quoted bs
 
 -- what stands behind the first colon that is in no double quotes, or nothing where there is none; `quoted`: whether a quote is open
 unfoldable pub behind_colon : Bool → List ℕ → List ℕ

@@ -10,10 +10,9 @@ use Rattle.sha2.specs.Sha256.{sha256}
 use Rattle.item_text.specs.Lines.{physical_lines, logical_lines}
 use Rattle.item_text.specs.Components.{Placed, placed, uid_of}
 use Rattle.item_text.specs.NormalForm.{normal_form}
-use Rattle.item_text.specs.Refusals.{Refusal, NotUtf8, first_of, refusal_of}
-use Rattle.item_text.specs.BuiltSoFar.{built}
+use Rattle.item_text.specs.Refusals.{first_of, refusal_of}
 use Rattle.item_text.specs.declared.item.ItemError.{ItemError}
-use Rattle.item_text.specs.declared.item.ItemError.TheVariants.{NotBuilt, TooLong}
+use Rattle.item_text.specs.declared.item.ItemError.TheVariants.{TooLong, NotUtf8}
 
 -- an item: its text, its ident, whether it has a UID, and its version
 pub record ItemValue : Type 0 where
@@ -39,23 +38,21 @@ value_of_lines text all = record {
   version = fingerprint all;
 }
 
-unfoldable pub unless_refused : Option Refusal → ItemValue → Result ItemValue Refusal
+unfoldable pub unless_refused : Option ItemError → ItemValue → Result ItemValue ItemError
 unless_refused None item = Ok item
 unless_refused (Some refusal) item = Err refusal
 
--- the item that a text is by the whole grammar, or why it is none. What isn't UTF-8 is refused with the length of its longest UTF-8 front.
-unfoldable pub whole_item : List ℕ → Result ItemValue Refusal
-whole_item text =
-    if is_utf8 text then unless_refused (refusal_of (length (physical_lines text)) (logical_lines text)) (value_of_lines text (placed (logical_lines text)))
-    else Err (NotUtf8 (utf8_valid_len text))
+-- the item that UTF-8 text is, or why it is none
+unfoldable pub item_of_text : List ℕ → Result ItemValue ItemError
+item_of_text text = unless_refused (refusal_of (length (physical_lines text)) (logical_lines text)) (value_of_lines text (placed (logical_lines text)))
 
-unfoldable pub as_built : Result ItemValue Refusal → Result ItemValue ItemError
-as_built (Ok item) = Ok item
-as_built (Err refusal) = Err NotBuilt
-
--- what a text reads as: so far only what is built, and there as the whole grammar says
+-- What a text reads as: the item that it is, or why it is none. A text of more than 8 MiB is too long; one that isn't UTF-8 is refused
+-- with the length of its longest UTF-8 front.
 unfoldable pub read_item : List ℕ → Result ItemValue ItemError
-read_item text = if nat_lt 8388608 (length text) then Err TooLong else if built text then as_built (whole_item text) else Err NotBuilt
+read_item text =
+    if nat_lt 8388608 (length text) then Err TooLong
+    else if is_utf8 text then item_of_text text
+    else Err (NotUtf8 (utf8_valid_len text))
 
 -- the item that a text is, if it is one
 unfoldable pub item_of : List ℕ → Option ItemValue

@@ -1,7 +1,11 @@
-pub mod BuiltSoFar
 pub mod Components
 pub mod Fingerprints
 pub mod Items
+pub mod Kinds
 pub mod Lines
 pub mod NormalForm
+pub mod Places
+pub mod Read
 pub mod Refusals
+pub mod Seen
+pub mod Walks

@@ -4,33 +4,32 @@ use Rattle.std.specs.List.{filter_map, find}
 use Rattle.std.specs.Option.{option_map}
 use Rattle.std.specs.Str.{bytes_eq}
 use Rattle.item_text.specs.Lines.{Line}
+use Rattle.item_text.specs.declared.item.ItemError.{ItemError}
+use Rattle.item_text.specs.declared.item.ItemError.TheVariants.{NoComponent, Unbalanced, Extra, LongUid, TwoUids}
 use Rattle.item_text.specs.Components.{Kind, Opens, Closes, Blank, Place, Before, Within, Behind, Placed, is_calendar, is_timezone, uid_at, uid_of, placed, last_place}
-
-pub data Refusal : Type 0 where
-  NotUtf8 : ℕ → Refusal
-  NoComponent : ℕ → Refusal
-  Unbalanced : ℕ → Refusal
-  Extra : ℕ → Refusal
-  LongUid : ℕ → Refusal
-  TwoUids : ℕ → Refusal
 
 -- the first of a list
 unfoldable pub first_of : {X : Type 0} → List X → Option X
 first_of [] = None
 first_of (x ∷ rest) = Some x
 
+-- the first of two that is there
+unfoldable pub else_of : {X : Type 0} → Option X → Option X → Option X
+else_of (Some x) other = Some x
+else_of None other = other
+
 -- whether a closing line of this name closes the innermost open component
 unfoldable pub closes : List (List ℕ) → List ℕ → Bool
 closes [] name = false
 closes (innermost ∷ outer) name = bytes_eq innermost name
 
-unfoldable pub long_uid : ℕ → Option (List ℕ) → Option Refusal
+unfoldable pub long_uid : ℕ → Option (List ℕ) → Option ItemError
 long_uid number None = None
 long_uid number (Some uid) = if nat_lt 500 (length uid) then Some (LongUid number) else None
 
 -- The fault of one line. Before the component only its opening line and blank lines may stand, behind it only blank lines. Within it
 -- a closing line closes the innermost component, and a UID has at most 500 bytes.
-unfoldable pub fault_at : ℕ → Place → Kind → Option Refusal
+unfoldable pub fault_at : ℕ → Place → Kind → Option ItemError
 fault_at number place Blank = None
 fault_at number Before (Opens name) = None
 fault_at number Before kind = Some (NoComponent number)
@@ -38,11 +37,11 @@ fault_at number Behind kind = Some (Extra number)
 fault_at number (Within open_names) (Closes name) = if closes open_names name then None else Some (Unbalanced number)
 fault_at number (Within open_names) kind = long_uid number (uid_at (Within open_names) kind)
 
-unfoldable pub fault_of : Placed → Option Refusal
+unfoldable pub fault_of : Placed → Option ItemError
 fault_of line = fault_at line.number line.place line.kind
 
 -- the fault of the end of a text of so many physical lines: no component came, or one isn't closed
-unfoldable pub fault_of_end : ℕ → Place → List Refusal
+unfoldable pub fault_of_end : ℕ → Place → List ItemError
 fault_of_end count Before = NoComponent 1 ∷ []
 fault_of_end count (Within open_names) = Unbalanced count ∷ []
 fault_of_end count Behind = []
@@ -88,7 +87,7 @@ same_uid uid other = false
 
 -- The refusals of a VCALENDAR whose opening line has this number: it has no child, or it has two or more and one of them has no UID
 -- or not that of the first. The first such child is told.
-unfoldable pub calendar_fault : ℕ → List Child → Option Refusal
+unfoldable pub calendar_fault : ℕ → List Child → Option ItemError
 calendar_fault number [] = Some (NoComponent number)
 calendar_fault number (child ∷ []) = None
 calendar_fault number (child ∷ second ∷ more) =
@@ -101,18 +100,14 @@ opens_calendar_at place kind = false
 unfoldable pub opens_calendar : Placed → Bool
 opens_calendar line = opens_calendar_at line.place line.kind
 
-unfoldable pub fault_of_calendar : Option Placed → List Child → Option Refusal
+-- the refusal that the children give, where a VCALENDAR is opened in the line of this number
+unfoldable pub fault_of_calendar : Option ℕ → List Child → Option ItemError
 fault_of_calendar None all = None
-fault_of_calendar (Some opening) all = calendar_fault opening.number all
-
--- the first refusal of the lines, else that of the calendar
-unfoldable pub else_of : Option Refusal → Option Refusal → Option Refusal
-else_of (Some refusal) other = Some refusal
-else_of None other = other
+fault_of_calendar (Some number) all = calendar_fault number all
 
 -- Why these lines, of so many physical lines, are no item. The lowest line comes first, and at one line its own fault before that of
 -- the end of the text.
-unfoldable pub refusal_of : ℕ → List Line → Option Refusal
+unfoldable pub refusal_of : ℕ → List Line → Option ItemError
 refusal_of count all =
     else_of (first_of (filter_map fault_of (placed all) ++ fault_of_end count (last_place Before all)))
-    (fault_of_calendar (find opens_calendar (placed all)) (children (placed all)))
+    (fault_of_calendar (option_map (λ (line : Placed). line.number) (find opens_calendar (placed all))) (children (placed all)))

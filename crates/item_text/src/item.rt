@@ -1,15 +1,21 @@
 //! Items: read from their text.
 
-ghost use Rattle.std.specs.Prelude.{◌≡◌, ◌⊎◌, Ok, Err, Some, IfOk, true, false, map, nat_lt};
-ghost use Rattle.std.specs.List.{list_all};
-ghost use Rattle.std.specs.Option.{MatchOption};
-ghost use Rattle.std.specs.Str.Lines.{lines};
-ghost use Rattle.item_text.specs.BuiltSoFar as spec;
-ghost use Rattle.item_text.specs.Items.{item_of, read_item};
+ghost use Rattle.std.specs.Prelude.{◌≡◌, ◌⊎◌, ◌≤◌, Ok, Err, Some, None, IfOk, IfErr, List, [], map, is_some, length};
+ghost use Rattle.std.specs.Option.{option_map, unwrap_or};
+ghost use Rattle.hex.specs.Hex.{encode_lower};
+ghost use Rattle.item_text.specs.Lines as spec;
+ghost use Rattle.item_text.specs.Components.{placed};
+ghost use Rattle.item_text.specs.Refusals as refused;
+ghost use Rattle.item_text.specs.Items.{item_of, read_item, item_of_text, uid_among};
+ghost use Rattle.item_text.specs.Seen.{line_seen};
+ghost use Rattle.item_text.specs.Walks.{children_seen};
+ghost use Rattle.item_text.specs.Read.{IsTold};
 
-use crate::card::uid_of_card;
-use crate::fp::Fp;
-use crate::normal::plain_version;
+use crate::children::{Children, calendar_fault};
+use crate::fp::{Fp, fp_hex};
+use crate::lines::{Line, physical_lines, unfolded};
+use crate::normal::fingerprint;
+use crate::walk::{Walk, go_over};
 use std::alloc::{AllocError, Global};
 use std::marker::Model;
 use thiserror::Error;
@@ -18,13 +24,30 @@ use values::Text;
 /// The longest text of an item, in bytes.
 pub const MAX_ITEM: u64 = 8_388_608;
 
-/// Why a text is not an item.
+/// Why a text is not an item. Lines are numbered from 1, as they stand in the text.
 #[derive(Debug, Drop, Error)]
 pub enum ItemError {
-    #[error("not built")]
-    NotBuilt,
+    /// It has more than 8 MiB.
     #[error("too long")]
     TooLong,
+    /// Its longest UTF-8 front has this many bytes.
+    #[error("not UTF-8 at byte {place}")]
+    NotUtf8 { place: u64 },
+    /// The first line that isn't blank opens no component, or a VCALENDAR has no child.
+    #[error("no component at line {line}")]
+    NoComponent { line: u32 },
+    /// A line closes a component that isn't the innermost one open, or the text ends within one.
+    #[error("unbalanced at line {line}")]
+    Unbalanced { line: u32 },
+    /// A line behind the component isn't blank.
+    #[error("text outside the component at line {line}")]
+    Extra { line: u32 },
+    /// A UID has more than 500 bytes.
+    #[error("long UID at line {line}")]
+    LongUid { line: u32 },
+    /// Of several children of a VCALENDAR one has no UID, or not that of the first.
+    #[error("several UIDs at line {line}")]
+    TwoUids { line: u32 },
     #[error("out of memory")]
     NoMemory,
 }
@@ -49,44 +72,110 @@ impl Model for Item {
     ghost invariant = { λ i. item_of i.text ≡ Some (record { text = i.text; ident = i.ident; has_uid = i.has_uid; version = i.version.0 }) };
 }
 
-/// A text as it is, where it is ASCII and its last line ends at a line feed.
-#[tactic(auto, unfolding(crate::specs::BuiltSoFar::is_ended_ascii))]
-fn ended_ascii(text: &[u8]) -> Option<&str>
-    ensures { MatchOption result (spec.is_ended_ascii text.now ≡ false) (λ x. (spec.is_ended_ascii text.now ≡ true) × (x.now ≡ text.now)) }
+/// What the lines of a text tell of the item.
+#[derive(Drop)]
+struct Told {
+    ident: Text,
+    has_uid: bool,
+    version: Fp,
+}
+
+/// A text without the byte order mark at its front.
+fn without_mark(text: &str) -> &str
+    ensures { result.now ≡ spec.without_mark text.now }
 {
-    if !is_ascii(text) || !is_ended(text) {
-        return None;
-    }
-    match std::str::from_utf8(text) {
-        Ok(utf8) => Some(utf8),
-        Err(_) => None,
+    if text.starts_with("\u{feff}") {
+        &text[3..]
+    } else {
+        text
     }
 }
 
-fn is_ascii(text: &[u8]) -> bool
-    ensures { result ≡ list_all (λ b. nat_lt b 128) text.now }
+/// The refusal that the children of a VCALENDAR give, whose opening line has the number.
+#[tactic(auto, unfolding(crate::specs::Refusals::fault_of_calendar))]
+fn children_fault(
+    calendar: Option<u32>,
+    children: Children<'_>,
+) -> Result<Option<ItemError>, AllocError>
+    ensures { IfOk result (λ fault. fault ≡ refused.fault_of_calendar calendar (children_seen children.entry [])) }
 {
-    text.iter().all(|b| *b < 128)
+    match calendar {
+        Some(number) => {
+            let all = children.all()?;
+            Ok(calendar_fault(number, &all))
+        }
+        None => Ok(None),
+    }
 }
 
-fn is_ended(text: &[u8]) -> bool
-    ensures { result ≡ spec.is_ended text.now }
+/// The ident: the UID, or else the version in hex.
+fn ident_of(alloc: Global, uid: Option<&str>, version: Fp) -> Result<Text, AllocError>
+    ensures { IfOk result (λ ident. ident ≡ unwrap_or (option_map (λ x. x.now) uid.entry) (encode_lower version.0)) }
 {
-    let [.., last] = text else {
-        return false;
+    match uid {
+        Some(uid) => Text::copy_of(alloc, uid),
+        None => fp_hex(alloc, version),
+    }
+}
+
+/// What lines tell, of a text of so many physical lines.
+fn told_by(alloc: Global, count: u32, lines: &[Line<'_>]) -> Result<Told, ItemError>
+    ensures ok { IfOk result (λ told. (refused.refusal_of count (map line_seen lines.now) ≡ None) × IsTold told (placed (map line_seen lines.now))) }
+    ensures err { IfErr result (λ e. (e ≡ ItemError.NoMemory) ⊎ (refused.refusal_of count (map line_seen lines.now) ≡ Some e)) }
+{
+    let walk = match go_over(alloc, lines) {
+        Ok(walk) => walk,
+        Err(error) => return Err(error),
     };
-    *last == b'\n'
+    if let Some(error) = walk.stack.end_fault(count) {
+        return Err(error);
+    }
+    let Walk {
+        stack: _,
+        uid,
+        calendar,
+        children,
+        kept,
+    } = walk;
+    match children_fault(calendar, children) {
+        Ok(None) => {}
+        Ok(Some(error)) => return Err(error),
+        Err(_) => return Err(ItemError::NoMemory),
+    }
+    let Ok(version) = fingerprint(alloc, &kept) else {
+        return Err(ItemError::NoMemory);
+    };
+    let Ok(ident) = ident_of(alloc, uid, version) else {
+        return Err(ItemError::NoMemory);
+    };
+    Ok(Told {
+        ident,
+        has_uid: uid.is_some(),
+        version,
+    })
 }
 
-/// The physical lines of a text.
-fn lines_of(alloc: Global, text: &str) -> Result<Vec<&str>, AllocError>
-    ensures { IfOk result (λ v. map (λ x. x.now) v.items ≡ lines text.now) }
+/// What a text tells.
+fn told_by_text(alloc: Global, text: &str) -> Result<Told, ItemError>
+    requires { length text.now ≤ 8_388_608 }
+    ensures ok { IfOk result (λ told. item_of_text text.now ≡ Ok (record { text = text.now; ident = told.ident; has_uid = told.has_uid; version = told.version.0 })) }
+    ensures err { IfErr result (λ e. (e ≡ ItemError.NoMemory) ⊎ (item_of_text text.now ≡ Err e)) }
 {
-    text.lines().collect(alloc)
+    let Ok(physical) = physical_lines(alloc, without_mark(text)) else {
+        return Err(ItemError::NoMemory);
+    };
+    let Ok(lines) = unfolded(alloc, &physical) else {
+        return Err(ItemError::NoMemory);
+    };
+    let count = physical.len() as u32;
+    match told_by(alloc, count, &lines) {
+        Ok(told) => Ok(told),
+        Err(error) => Err(error),
+    }
 }
 
 impl Item {
-    /// Reads an item. No error but want of memory comes where the text is an item.
+    /// Reads an item. The lowest line that shows a fault is told; of the children of a VCALENDAR only where no line has one.
     #[tactic(auto, unfolding(crate::specs::Items::read_item, crate::specs::Items::item_of))]
     pub fn read(alloc: Global, text: &[u8]) -> Result<Item, ItemError>
         ensures answer { (result ≡ Err ItemError.NoMemory) ⊎ (result ≡ read_item text.now) }
@@ -95,26 +184,30 @@ impl Item {
         if text.len() as u64 > MAX_ITEM {
             return Err(ItemError::TooLong);
         }
-        let Some(utf8) = ended_ascii(text) else {
-            return Err(ItemError::NotBuilt);
+        let utf8 = match std::str::from_utf8(text) {
+            Ok(utf8) => utf8,
+            Err(error) => {
+                return Err(ItemError::NotUtf8 {
+                    place: error.valid_up_to() as u64,
+                });
+            }
         };
-        let Ok(mut lines) = lines_of(alloc, utf8) else {
-            return Err(ItemError::NoMemory);
-        };
-        let Some(uid) = uid_of_card(&lines) else {
-            return Err(ItemError::NotBuilt);
-        };
-        let version = plain_version(&mut lines);
-        let Ok(ident) = Text::copy_of(alloc, uid) else {
-            return Err(ItemError::NoMemory);
+        let told = match told_by_text(alloc, utf8) {
+            Ok(told) => told,
+            Err(error) => return Err(error),
         };
         let Ok(text) = Text::copy_of(alloc, utf8) else {
             return Err(ItemError::NoMemory);
         };
+        let Told {
+            ident,
+            has_uid,
+            version,
+        } = told;
         Ok(Item {
             text,
             ident,
-            has_uid: true,
+            has_uid,
             version,
         })
     }

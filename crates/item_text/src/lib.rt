@@ -1,12 +1,17 @@
 //! Items: their text, ident and version.
 #![tactic(auto)]
 
-mod card;
+mod children;
 mod fp;
 mod item;
+mod lines;
 mod normal;
-#[cfg(test)]
-mod tests;
+mod stack;
+mod walk;
+mod words;
 
 pub use fp::{Fp, fp_hex, fp_of_hex};
 pub use item::{Item, ItemError, MAX_ITEM};
+
+#[cfg(test)]
+mod tests;

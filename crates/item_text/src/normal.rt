@@ -1,44 +1,41 @@
-//! The normal form of a card, and its fingerprint.
+//! The normal form of an item, and its fingerprint.
 
-ghost use Rattle.std.specs.Prelude.{◌≡◌, map};
-ghost use Rattle.std.specs.List.{filter};
+ghost use Rattle.std.specs.Prelude.{◌≡◌, IfOk, map};
 ghost use Rattle.sha2.specs.Sha256.{sha256};
-ghost use Rattle.item_text.specs.BuiltSoFar as spec;
+ghost use Rattle.item_text.specs.Components.{upper};
 ghost use Rattle.item_text.specs.NormalForm as form;
+ghost use Rattle.item_text.specs.Seen.{bytes_of};
 
-use crate::card::split_line;
 use crate::fp::Fp;
+use crate::lines::LineText;
+use crate::words::is_word;
 use sha2::{Digest, Sha256};
+use std::alloc::{AllocError, Global};
 
+/// Whether the normal form drops the properties of a name.
 #[tactic(auto, unfolding(crate::specs::NormalForm::is_dropped))]
-fn is_dropped(name: &str) -> bool
-    ensures { result ≡ form.is_dropped name.now }
+pub(crate) fn is_dropped(name: &str) -> bool
+    ensures { result ≡ form.is_dropped (upper name.now) }
 {
-    name == "PRODID"
-        || name == "METHOD"
-        || name == "REV"
-        || name == "LAST-MODIFIED"
-        || name == "CREATED"
-        || name == "DTSTAMP"
-        || name == "UID"
-        || name == "X-RADICALE-NAME"
-        || name == "X-WR-CALNAME"
+    is_word(name, "PRODID")
+        || is_word(name, "METHOD")
+        || is_word(name, "REV")
+        || is_word(name, "LAST-MODIFIED")
+        || is_word(name, "CREATED")
+        || is_word(name, "DTSTAMP")
+        || is_word(name, "UID")
+        || is_word(name, "X-RADICALE-NAME")
+        || is_word(name, "X-WR-CALNAME")
 }
 
-#[tactic(auto, unfolding(crate::specs::BuiltSoFar::is_plain_kept))]
-fn is_kept(line: &str) -> bool
-    ensures { result ≡ spec.is_plain_kept line.now }
+fn texts_of<'a, 'b>(alloc: Global, lines: &'a [LineText<'b>]) -> Result<Vec<&'a str>, AllocError>
+    ensures { IfOk result (λ v. map (λ x. x.now) v.items ≡ map bytes_of lines.now) }
 {
-    match split_line(line) {
-        Some((name, _)) => !is_dropped(name),
-        None => !is_dropped(line),
+    let mut texts = Vec::new(alloc);
+    for line in lines {
+        texts.push(line.as_str())?;
     }
-}
-
-fn keep(lines: &mut Vec<&str>)
-    ensures { map (λ x. x.now) lines.new.items ≡ filter spec.is_plain_kept (map (λ x. x.now) lines.old.items) }
-{
-    lines.retain(|line| is_kept(line));
+    Ok(texts)
 }
 
 fn put_in_order(lines: &mut Vec<&str>)
@@ -60,12 +57,11 @@ fn digest_of(lines: &[&str]) -> [u8; 32]
     hasher.finalize()
 }
 
-/// The fingerprint of a card of these lines, which are left as the normal form has them.
-#[tactic(auto, unfolding(crate::specs::BuiltSoFar::plain_version))]
-pub(crate) fn plain_version(lines: &mut Vec<&str>) -> Fp
-    ensures { result.0 ≡ spec.plain_version (map (λ x. x.now) lines.old.items) }
+/// The fingerprint of a normal form of these lines, which stand in any order.
+pub(crate) fn fingerprint(alloc: Global, lines: &[LineText<'_>]) -> Result<Fp, AllocError>
+    ensures { IfOk result (λ fp. fp.0 ≡ sha256 (form.joined (form.in_order (map bytes_of lines.now)))) }
 {
-    keep(lines);
-    put_in_order(lines);
-    Fp(digest_of(lines))
+    let mut texts = texts_of(alloc, lines)?;
+    put_in_order(&mut texts);
+    Ok(Fp(digest_of(&texts)))
 }

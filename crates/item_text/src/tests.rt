@@ -1,4 +1,4 @@
-//! Cards that are read, texts that aren't built, and fingerprints as text.
+//! Items that are read, each refusal with its line, and fingerprints as text.
 
 use super::*;
 use std::alloc::Global;
@@ -9,79 +9,257 @@ const CARD: &str = "BEGIN:VCARD\r\nVERSION:3.0\r\nUID:x\r\nFN:Ann\r\nEND:VCARD\r
 /// The SHA-256 of `BEGIN:VCARD`, `END:VCARD`, `FN:Ann` and `VERSION:3.0`, joined by CRLF.
 const CARD_VERSION: &str = "6fd4221ce45741099a4c115a32df990d30605b1ce566b9d5934d47e2d203caf9";
 
-fn is_version(alloc: Global, text: &str, version: &str) -> Result<bool, Fail> {
+/// The SHA-256 of `BEGIN:VCARD` and `END:VCARD`, joined by CRLF.
+const BARE_VERSION: &str = "547eea32bfbee05bebc0bc024b62538ccf3f7745cbf70d9f66ecba79e4c19952";
+
+/// Whether a text is an item of this ident and version.
+fn reads_as(alloc: Global, text: &str, ident: &str, version: &str) -> Result<bool, Fail> {
     let item = Item::read(alloc, text.as_bytes())?;
     let hex = fp_hex(alloc, item.fp())?;
-    Ok(item.has_uid() && item.text() == text && item.ident() == "x" && hex.as_str() == version)
+    Ok(item.text() == text && item.ident() == ident && hex.as_str() == version)
+}
+
+/// Whether a text has a UID of its own.
+fn has_uid(alloc: Global, text: &str) -> Result<bool, Fail> {
+    let item = Item::read(alloc, text.as_bytes())?;
+    Ok(item.has_uid())
+}
+
+/// Whether a text is refused in these words.
+fn is_refused(alloc: Global, text: &[u8], words: &str) -> Result<bool, Fail> {
+    match Item::read(alloc, text) {
+        Ok(_) => Ok(false),
+        Err(error) => Ok(error.to_string(alloc)?.as_str() == words),
+    }
 }
 
 #[test]
-fn reads_a_card(rt: HostRuntime) -> Result<(), Fail> {
+fn version_ignores_line_ends_order_and_dropped_names(rt: HostRuntime) -> Result<(), Fail> {
     assert_eq!(rt; CARD.len(), 52);
-    let met = is_version(rt.alloc(), CARD, CARD_VERSION)?;
+    for text in [
+        CARD,
+        "\u{feff}BEGIN:VCARD\nVERSION:3.0\nUID:x\nFN:Ann\nEND:VCARD",
+        "\r\n \t\r\nbegin: vCard \r\nFN:Ann\r\nPRODID:q\r\nrev;X=1:20240101T000000Z\r\n\r\nuId : x \r\nVERSION:3.0\r\nEnd:VCARD\r\n\r\n",
+        "BEGIN:VCARD\r\nVERSION:3\r\n .0\r\nUID:x\r\nF\r\n\tN:\r\n A\r\n n\r\n n\r\nEND:VCARD\r\n",
+    ] {
+        let met = reads_as(rt.alloc(), text, "x", CARD_VERSION)?;
+        assert!(rt; met, "{text}");
+        let own = has_uid(rt.alloc(), text)?;
+        assert!(rt; own, "{text}");
+    }
+    Ok(())
+}
+
+/// The normal form has 99 bytes: `BEGIN:VCALENDAR`, `BEGIN:VEVENT`, `DTSTART:20240102T090000Z`, `END:VCALENDAR`, `END:VEVENT`, `SUMMARY:Long er`.
+#[test]
+fn reads_an_event(rt: HostRuntime) -> Result<(), Fail> {
+    let met = reads_as(
+        rt.alloc(),
+        "BEGIN:VCALENDAR\r\nVERSION:2.0\r\nPRODID:-//one//EN\r\nBEGIN:VEVENT\r\nUID:m1\r\nDTSTAMP:20240101T000000Z\r\nDTSTART:20240102T090000Z\r\nSUMMARY:Long\r\n  er\r\nEND:VEVENT\r\nEND:VCALENDAR\r\n",
+        "m1",
+        "a0a1e590bf77859b039c747e2caf91c95d25143553eeb049dc29017f72942f26",
+    )?;
     assert!(rt; met);
     Ok(())
 }
 
 #[test]
-fn version_ignores_line_ends_order_and_dropped_names(rt: HostRuntime) -> Result<(), Fail> {
-    for text in [
-        "BEGIN:VCARD\nVERSION:3.0\nUID:x\nFN:Ann\nEND:VCARD\n",
-        "BEGIN:VCARD\r\nFN:Ann\r\nPRODID:q\r\nREV:20240101T000000Z\r\nUID:x\r\nVERSION:3.0\r\nEND:VCARD\r\n",
+fn finds_the_uid(rt: HostRuntime) -> Result<(), Fail> {
+    for (text, ident) in [
+        ("BEGIN:VCARD\r\nUID;X=\"a:b\":u1\r\nEND:VCARD\r\n", "u1"),
+        ("BEGIN:VCARD\r\nUID:u1\r\nUID:u2\r\nEND:VCARD\r\n", "u1"),
+        (
+            "BEGIN:VCARD\r\nUID:\r\nUID:\u{e9}\r\n :\r\nEND:VCARD\r\n",
+            "\u{e9}:",
+        ),
+        ("BEGIN:VCARD\r\nUID: \r\nEND:VCARD\r\n", BARE_VERSION),
+        ("BEGIN:VCARD\r\nUID;X=\"a:b\r\nEND:VCARD\r\n", BARE_VERSION),
     ] {
-        let met = is_version(rt.alloc(), text, CARD_VERSION)?;
+        let met = reads_as(rt.alloc(), text, ident, BARE_VERSION)?;
         assert!(rt; met, "{text}");
     }
     Ok(())
 }
 
 #[test]
-fn other_texts_are_not_built(rt: HostRuntime) -> Result<(), Fail> {
+fn has_no_uid_elsewhere(rt: HostRuntime) -> Result<(), Fail> {
     for text in [
-        "",
-        "hello",
-        "BEGIN:VCARD\r\n",
-        "BEGIN:VCARD\r\nUID:x\r\nEND:VCARD",
-        "BEGIN:VCARD\r\nFN:Ann\r\nEND:VCARD\r\n",
-        "BEGIN:VCARD\r\nUID:x\r\nUID:x\r\nEND:VCARD\r\n",
-        "BEGIN:VCARD\r\nUID:\r\nEND:VCARD\r\n",
-        "BEGIN:VCARD\r\nUID: x\r\nEND:VCARD\r\n",
-        "BEGIN:VCARD\r\nUID:x \r\nEND:VCARD\r\n",
-        "BEGIN:VCARD\r\nUID:x\r\n FN:Ann\r\nEND:VCARD\r\n",
-        "BEGIN:VCARD\r\nUID:x\r\nfn:Ann\r\nEND:VCARD\r\n",
-        "BEGIN:VCARD\r\nUID:x\r\nEMAIL;TYPE=home:a\r\nEND:VCARD\r\n",
-        "BEGIN:VCARD\r\nUID:x\r\nBEGIN:VEVENT\r\nEND:VEVENT\r\nEND:VCARD\r\n",
-        "BEGIN:VCARD\r\nUID:x\r\n\r\nEND:VCARD\r\n",
-        "BEGIN:VCARD\r\nUID:x\r\nFN:A\tnn\r\nEND:VCARD\r\n",
-        "BEGIN:VCARD\r\nUID:x\r\nFN:Änn\r\nEND:VCARD\r\n",
-        "BEGIN:VCALENDAR\r\nUID:x\r\nEND:VCALENDAR\r\n",
+        "BEGIN:VCARD\r\nBEGIN:X\r\nUID:u1\r\nEND:X\r\nEND:VCARD\r\n",
+        "BEGIN:VCALENDAR\r\nUID:u1\r\nBEGIN:VEVENT\r\nBEGIN:VALARM\r\nUID:u2\r\nEND:VALARM\r\nEND:VEVENT\r\nEND:VCALENDAR\r\n",
+        "BEGIN:VCALENDAR\r\nBEGIN:VTIMEZONE\r\nUID:u1\r\nEND:VTIMEZONE\r\nBEGIN:VEVENT\r\nEND:VEVENT\r\nEND:VCALENDAR\r\n",
+        "BEGIN:VCARD\r\nXUID:u1\r\nUID\r\nEND:VCARD\r\n",
     ] {
-        let refused = matches!(
-            Item::read(rt.alloc(), text.as_bytes()),
-            Err(ItemError::NotBuilt)
-        );
+        let own = has_uid(rt.alloc(), text)?;
+        assert!(rt; !own, "{text}");
+    }
+    Ok(())
+}
+
+#[test]
+fn refuses_other_lines(rt: HostRuntime) -> Result<(), Fail> {
+    for (text, words) in [
+        ("", "no component at line 1"),
+        ("\u{feff}", "no component at line 1"),
+        ("\r", "no component at line 1"),
+        ("\r\n \t\r\n", "no component at line 1"),
+        ("hello", "no component at line 1"),
+        ("\r\n\r\nEND:VCARD\r\n", "no component at line 3"),
+        ("BEGIN:VCARD\r\n", "unbalanced at line 1"),
+        ("BEGIN:VCARD\r\nFN:A", "unbalanced at line 2"),
+        ("BEGIN:VCARD\r\nFN:A\r\n nn\r\n", "unbalanced at line 3"),
+        (
+            "BEGIN:A\r\nBEGIN:B\r\nEND:A\r\nEND:B\r\n",
+            "unbalanced at line 3",
+        ),
+        (
+            "BEGIN:VCARD\r\nFN:A\r\n nn\r\nEND:VEVENT\r\n",
+            "unbalanced at line 4",
+        ),
+        (
+            "BEGIN:VCARD\r\nEND:VCARD\r\n\r\nFN:Ann\r\n",
+            "text outside the component at line 4",
+        ),
+        (
+            "BEGIN:VCARD\r\nEND:VCARD\r\nBEGIN:VCARD\r\nEND:VCARD\r\n",
+            "text outside the component at line 3",
+        ),
+    ] {
+        let refused = is_refused(rt.alloc(), text.as_bytes(), words)?;
         assert!(rt; refused, "{text}");
     }
     Ok(())
 }
 
-/// A card of about 1 MiB: 10,000 notes of 100 bytes.
 #[test]
-fn reads_a_long_card(rt: HostRuntime) -> Result<(), Fail> {
-    let mut text = String::from_str(rt.alloc(), "BEGIN:VCARD\r\nUID:x\r\n")?;
-    for number in 0..10_000u32 {
-        let turned = (number * 7919) % 10_000;
-        text.push_str(format!(in rt.alloc(); "NOTE:{turned:0>93}\r\n")?.as_str())?;
+fn refuses_calendars_by_their_children(rt: HostRuntime) -> Result<(), Fail> {
+    for (text, words) in [
+        (
+            "\r\nBEGIN:VCALENDAR\r\nBEGIN:VTIMEZONE\r\nEND:VTIMEZONE\r\nEND:VCALENDAR\r\n",
+            "no component at line 2",
+        ),
+        (
+            "BEGIN:VCALENDAR\r\nBEGIN:VEVENT\r\nUID:a\r\nEND:VEVENT\r\nBEGIN:VEVENT\r\nUID:b\r\nEND:VEVENT\r\nEND:VCALENDAR\r\n",
+            "several UIDs at line 5",
+        ),
+        (
+            "BEGIN:VCALENDAR\r\nBEGIN:VEVENT\r\nUID:a\r\nEND:VEVENT\r\nBEGIN:VEVENT\r\nEND:VEVENT\r\nEND:VCALENDAR\r\n",
+            "several UIDs at line 5",
+        ),
+        (
+            "BEGIN:VCALENDAR\r\nBEGIN:VEVENT\r\nEND:VEVENT\r\nBEGIN:VEVENT\r\nUID:a\r\nEND:VEVENT\r\nEND:VCALENDAR\r\n",
+            "several UIDs at line 2",
+        ),
+        (
+            "BEGIN:VCALENDAR\r\nEND:VCALENDAR\r\nX\r\n",
+            "text outside the component at line 3",
+        ),
+    ] {
+        let refused = is_refused(rt.alloc(), text.as_bytes(), words)?;
+        assert!(rt; refused, "{text}");
+    }
+    Ok(())
+}
+
+/// A text is cut in the middle of a character, and a fold cuts one in two.
+#[test]
+fn refuses_what_is_not_utf8(rt: HostRuntime) -> Result<(), Fail> {
+    let cut = is_refused(
+        rt.alloc(),
+        b"BEGIN:VCARD\r\nFN:\xC3",
+        "not UTF-8 at byte 16",
+    )?;
+    assert!(rt; cut);
+    let folded = is_refused(
+        rt.alloc(),
+        b"BEGIN:VCARD\r\nFN:\xC3\r\n \xA9\r\nEND:VCARD\r\n",
+        "not UTF-8 at byte 16",
+    )?;
+    assert!(rt; folded);
+    Ok(())
+}
+
+fn uid_of_length(alloc: Global, length: usize) -> Result<String, Fail> {
+    let mut text = String::from_str(alloc, "BEGIN:VCARD\r\n\r\nUID:")?;
+    for _ in 0..length {
+        text.push_str("u")?;
+    }
+    text.push_str("\r\nEND:X\r\nEND:VCARD\r\n")?;
+    Ok(text)
+}
+
+#[test]
+fn refuses_a_long_uid(rt: HostRuntime) -> Result<(), Fail> {
+    let longest = uid_of_length(rt.alloc(), 500)?;
+    let next = is_refused(rt.alloc(), longest.as_bytes(), "unbalanced at line 4")?;
+    assert!(rt; next);
+    let longer = uid_of_length(rt.alloc(), 501)?;
+    let refused = is_refused(rt.alloc(), longer.as_bytes(), "long UID at line 3")?;
+    assert!(rt; refused);
+    Ok(())
+}
+
+/// A card of about 8 MiB: 100,000 notes of 81 bytes.
+fn long_card(alloc: Global) -> Result<String, Fail> {
+    let mut text = String::from_str(alloc, "BEGIN:VCARD\r\nUID:x\r\n")?;
+    for number in 0..100_000u32 {
+        let turned = (number * 7919) % 100_000;
+        text.push_str(format!(in alloc; "NOTE:{turned:0>76}\r\n")?.as_str())?;
     }
     text.push_str("END:VCARD\r\n")?;
-    let item = Item::read(rt.alloc(), text.as_str().as_bytes())?;
-    assert_eq!(rt; item.ident(), "x");
-    assert_eq!(rt; item.text().len(), text.len());
-    let hex = fp_hex(rt.alloc(), item.fp())?;
-    assert_eq!(rt;
-        hex.as_str(),
-        "32386b4327eab4e906b99959ff4e3185988ecf8b64706c74d23830bdda82eede"
-    );
+    Ok(text)
+}
+
+#[test]
+fn reads_a_long_card(rt: HostRuntime) -> Result<(), Fail> {
+    let text = long_card(rt.alloc())?;
+    assert_eq!(rt; text.len(), 8_300_031);
+    let met = reads_as(
+        rt.alloc(),
+        text.as_str(),
+        "x",
+        "8408cd5b692d60d6ed32a191e6eacfc1eaf2e92b2dd87165976e28a8fedb03de",
+    )?;
+    assert!(rt; met);
+    Ok(())
+}
+
+/// 8 MiB of spaces are a blank line.
+#[test]
+fn refuses_more_than_8_mib(rt: HostRuntime) -> Result<(), Fail> {
+    let mut text = String::from_str(rt.alloc(), " ")?;
+    for _ in 0..23u32 {
+        let half = text.clone()?;
+        text.push_str(half.as_str())?;
+    }
+    assert_eq!(rt; text.len(), 8_388_608);
+    let blank = is_refused(rt.alloc(), text.as_bytes(), "no component at line 1")?;
+    assert!(rt; blank);
+    text.push_str(" ")?;
+    let refused = is_refused(rt.alloc(), text.as_bytes(), "too long")?;
+    assert!(rt; refused);
+    Ok(())
+}
+
+/// A card with 1,000 components, each inside the one before.
+#[test]
+fn reads_a_deep_card(rt: HostRuntime) -> Result<(), Fail> {
+    let mut text = String::from_str(rt.alloc(), "BEGIN:VCARD\r\nUID:x\r\n")?;
+    for _ in 0..1000u32 {
+        text.push_str("BEGIN:X\r\n")?;
+    }
+    for _ in 0..1000u32 {
+        text.push_str("END:X\r\n")?;
+    }
+    text.push_str("END:VCARD\r\n")?;
+    let own = has_uid(rt.alloc(), text.as_str())?;
+    assert!(rt; own);
+    text.push_str("END:X\r\n")?;
+    let refused = is_refused(
+        rt.alloc(),
+        text.as_bytes(),
+        "text outside the component at line 2004",
+    )?;
+    assert!(rt; refused);
     Ok(())
 }
 

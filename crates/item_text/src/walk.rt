@@ -1,0 +1,141 @@
+//! The walk over the lines of a text: the first refusal, the first UID and what the normal form keeps.
+
+ghost use Rattle.std.specs.Prelude.{◌≡◌, ◌++◌, ◌⊎◌, List, [], ◌∷◌, None, Some, Err, OnOk, IfOk, IfErr, map, if◌then◌else◌};
+ghost use Rattle.std.specs.Option.{option_map};
+ghost use Rattle.item_text.specs.Lines as spec;
+ghost use Rattle.item_text.specs.Components.{upper, kind_of};
+ghost use Rattle.item_text.specs.NormalForm as form;
+ghost use Rattle.item_text.specs.Refusals as refused;
+ghost use Rattle.item_text.specs.Kinds.{kind_seen};
+ghost use Rattle.item_text.specs.Seen.{bytes_of, line_seen};
+ghost use Rattle.item_text.specs.Places.{place_seen, names_of, IsCounted};
+ghost use Rattle.item_text.specs.Walks.{found_from, found_in};
+
+use crate::children::{Children, first};
+use crate::item::ItemError;
+use crate::lines::{Line, LineText};
+use crate::stack::Stack;
+use crate::words::{LineKind, kind_of, trimmed};
+use std::alloc::{AllocError, Global};
+
+/// What the lines so far gave.
+#[derive(Drop)]
+pub(crate) struct Walk<'a> {
+    pub(crate) stack: Stack<'a>,
+    /// The first UID.
+    pub(crate) uid: Option<&'a str>,
+    /// The number of the opening line, where the component of the text is a VCALENDAR.
+    pub(crate) calendar: Option<u32>,
+    pub(crate) children: Children<'a>,
+    /// The lines that the normal form keeps.
+    pub(crate) kept: Vec<LineText<'a>>,
+}
+
+/// A head and a name in upper case.
+fn headed<'a>(alloc: Global, head: &str, name: &str) -> Result<LineText<'a>, AllocError>
+    ensures { IfOk result (λ t. bytes_of t ≡ upper (head.now ++ name.now)) }
+{
+    let mut text = String::from_str(alloc, head)?;
+    text.push_str(name)?;
+    text.make_ascii_uppercase();
+    Ok(LineText::Owned(text))
+}
+
+/// A trimmed line of this kind as the normal form has it.
+#[tactic(auto, unfolding(crate::specs::NormalForm::written_as))]
+fn written<'a>(alloc: Global, text: &'a str, kind: LineKind<'a>) -> Result<LineText<'a>, AllocError>
+    ensures { IfOk result (λ t. bytes_of t ≡ form.written_as text.now (kind_seen kind.entry)) }
+{
+    match kind {
+        LineKind::Opens(name) => headed(alloc, "BEGIN:", name),
+        LineKind::Closes(name) => headed(alloc, "END:", name),
+        LineKind::Property(_, _) => Ok(LineText::Lent(text)),
+        LineKind::Blank => Ok(LineText::Lent(text)),
+    }
+}
+
+/// Keeps a line, where it stays in the normal form.
+fn keep<'a>(
+    alloc: Global,
+    kept: &mut Vec<LineText<'a>>,
+    stays: bool,
+    text: &'a str,
+    kind: LineKind<'a>,
+) -> Result<(), AllocError>
+    ensures { OnOk result (map bytes_of kept.new.items ≡ map bytes_of kept.old.items ++ (if stays then form.written_as text.now (kind_seen kind.entry) ∷ [] else [])) }
+{
+    if !stays {
+        return Ok(());
+    }
+    let line = written(alloc, text, kind)?;
+    kept.push(line)?;
+    Ok(())
+}
+
+#[tactic(auto, unfolding(crate::specs::Refusals::else_of))]
+fn first_number(calendar: Option<u32>, opens: bool, number: u32) -> Option<u32>
+    ensures { result ≡ refused.else_of calendar (if opens then Some number else None) }
+{
+    match calendar {
+        Some(calendar) => Some(calendar),
+        None => { if opens { Some(number) } else { None } }
+    }
+}
+
+impl<'a> Walk<'a> {
+    fn new(alloc: Global) -> Walk<'a>
+        ensures counted { IsCounted result.stack }
+        ensures starts { (all : List spec.Line) → found_from result all ≡ found_in all }
+    {
+        Walk {
+            stack: Stack::new(alloc),
+            uid: None,
+            calendar: None,
+            children: Children::new(alloc),
+            kept: Vec::new(alloc),
+        }
+    }
+
+    /// Goes over a line.
+    fn go(&mut self, alloc: Global, number: u32, text: &'a str) -> Result<(), ItemError>
+        requires { IsCounted self.old.stack }
+        ensures counted { OnOk result (IsCounted self.new.stack) }
+        ensures goes { OnOk result ((rest : List spec.Line) → found_from self.new rest ≡ found_from self.old (record { number = number; text = text.now } ∷ rest)) }
+        ensures err { IfErr result (λ e. (e ≡ ItemError.NoMemory) ⊎ (refused.fault_at number (place_seen self.old.stack) (kind_of (spec.trimmed text.now)) ≡ Some e)) }
+    {
+        let text = trimmed(text);
+        let kind = kind_of(text);
+        let uid = self.stack.uid(kind);
+        if let Some(error) = self.stack.fault(number, kind, uid) {
+            return Err(error);
+        }
+        let stays = self.stack.keeps(kind);
+        let Ok(()) = keep(alloc, &mut self.kept, stays, text, kind) else {
+            return Err(ItemError::NoMemory);
+        };
+        let begins = self.stack.begins_child(kind);
+        let Ok(()) = self.children.note(number, begins, uid) else {
+            return Err(ItemError::NoMemory);
+        };
+        self.uid = first(self.uid, uid);
+        self.calendar = first_number(self.calendar, self.stack.opens_calendar(kind), number);
+        let Ok(()) = self.stack.go(kind) else {
+            return Err(ItemError::NoMemory);
+        };
+        Ok(())
+    }
+}
+
+/// Goes over all lines of a text.
+pub(crate) fn go_over<'a, 'b>(alloc: Global, lines: &'a [Line<'b>]) -> Result<Walk<'a>, ItemError>
+    ensures ok { IfOk result (λ w. found_from w [] ≡ found_in (map line_seen lines.now)) }
+    ensures err { IfErr result (λ e. (e ≡ ItemError.NoMemory) ⊎ (refused.first_of (found_in (map line_seen lines.now)).faults ≡ Some e)) }
+{
+    let mut walk = Walk::new(alloc);
+    for line in lines {
+        if let Err(error) = walk.go(alloc, line.number, line.text.as_str()) {
+            return Err(error);
+        }
+    }
+    Ok(walk)
+}
