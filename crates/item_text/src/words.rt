@@ -1,6 +1,6 @@
 //! Words of a line: the blanks at its ends, its name, its value, and what the line is.
 
-ghost use Rattle.std.specs.Prelude.{◌≡◌, take, drop, true, false};
+ghost use Rattle.std.specs.Prelude.{◌≡◌, take, drop, true, false, codes};
 ghost use Rattle.std.specs.List.{before_first, after_first, position_or_len};
 ghost use Rattle.std.specs.Option.{MatchOption};
 ghost use Rattle.std.specs.Str.{bytes_eq, IsUtf8, IsCharBoundary};
@@ -155,6 +155,18 @@ pub(crate) fn is_word(text: &str, word: &str) -> bool
     text.eq_ignore_ascii_case(word)
 }
 
+fn begins(head: &str) -> bool
+    ensures { result ≡ bytes_eq (upper head.now) (codes "BEGIN") }
+{
+    is_word(head, "BEGIN")
+}
+
+fn ends(head: &str) -> bool
+    ensures { result ≡ bytes_eq (upper head.now) (codes "END") }
+{
+    is_word(head, "END")
+}
+
 /// What a trimmed line is.
 pub(crate) fn kind_of(line: &str) -> LineKind<'_>
     ensures { kind_seen result ≡ kind_of line.now }
@@ -164,9 +176,9 @@ pub(crate) fn kind_of(line: &str) -> LineKind<'_>
     }
     match split_colon(line) {
         Some((head, tail)) => {
-            if is_word(head, "BEGIN") {
+            if begins(head) {
                 LineKind::Opens(trimmed(tail))
-            } else if is_word(head, "END") {
+            } else if ends(head) {
                 LineKind::Closes(trimmed(tail))
             } else {
                 LineKind::Property(name_of(line), line)

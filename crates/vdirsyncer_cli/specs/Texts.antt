@@ -36,8 +36,13 @@ side_letter A = codes "a"
 side_letter B = codes "b"
 
 abbrev pub item_error_text : ItemError → List ℕ
-item_error_text item.NotBuilt = codes "not built"
 item_error_text item.TooLong = codes "too long"
+item_error_text (item.NotUtf8 place) = codes "not UTF-8 at byte " ++ decimal place
+item_error_text (item.NoComponent line) = codes "no component at line " ++ decimal line
+item_error_text (item.Unbalanced line) = codes "unbalanced at line " ++ decimal line
+item_error_text (item.Extra line) = codes "text outside the component at line " ++ decimal line
+item_error_text (item.LongUid line) = codes "long UID at line " ++ decimal line
+item_error_text (item.TwoUids line) = codes "several UIDs at line " ++ decimal line
 item_error_text item.NoMemory = codes "out of memory"
 
 abbrev pub store_error_text : StoreError → List ℕ

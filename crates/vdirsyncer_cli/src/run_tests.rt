@@ -201,7 +201,7 @@ fn an_ident_twice_refuses(rt: HostRuntime) -> Result<(), Fail> {
 }
 
 #[test]
-fn a_text_outside_the_grammar_refuses(rt: HostRuntime) -> Result<(), Fail> {
+fn a_text_that_is_no_item_refuses(rt: HostRuntime) -> Result<(), Fail> {
     let alloc = rt.alloc();
     let a = folder(alloc, &[("bad.vcf", "hello")], no_plan(alloc))?;
     let b = folder(alloc, &[], no_plan(alloc))?;
@@ -210,7 +210,7 @@ fn a_text_outside_the_grammar_refuses(rt: HostRuntime) -> Result<(), Fail> {
     assert_eq!(rt; ran.status, 1);
     assert_eq!(rt;
         printed(&ran.out)?,
-        "p: refused: storage a: \"bad.vcf\": not built\n"
+        "p: refused: storage a: \"bad.vcf\": no component at line 1\n"
     );
     Ok(())
 }

@@ -91,13 +91,13 @@ fn refusals_are_printed(rt: HostRuntime) -> Result<(), Fail> {
             side: Side::A,
             error: StoreError::BadItem {
                 href: text(alloc, "bad.vcf")?,
-                error: ItemError::NotBuilt,
+                error: ItemError::Extra { line: 7 },
             },
         },
     );
     assert_eq!(rt;
         report_text(alloc, "p", &bad)?.as_str(),
-        "p: refused: storage a: \"bad.vcf\": not built\n"
+        "p: refused: storage a: \"bad.vcf\": text outside the component at line 7\n"
     );
     Ok(())
 }

@@ -31,13 +31,18 @@ fn side_letter(side: Side) -> &'static str
     }
 }
 
-fn item_error_text(error: &ItemError) -> &'static str
-    ensures { result.now ≡ item_error_text error.now }
+fn item_error_text(alloc: Global, error: &ItemError) -> Result<String, AllocError>
+    ensures { IfOk result (λ t. string_bytes t ≡ item_error_text error.now) }
 {
     match error {
-        ItemError::NotBuilt => "not built",
-        ItemError::TooLong => "too long",
-        ItemError::NoMemory => "out of memory",
+        ItemError::TooLong => String::from_str(alloc, "too long"),
+        ItemError::NotUtf8 { place } => format!(in alloc; "not UTF-8 at byte {place}"),
+        ItemError::NoComponent { line } => format!(in alloc; "no component at line {line}"),
+        ItemError::Unbalanced { line } => format!(in alloc; "unbalanced at line {line}"),
+        ItemError::Extra { line } => format!(in alloc; "text outside the component at line {line}"),
+        ItemError::LongUid { line } => format!(in alloc; "long UID at line {line}"),
+        ItemError::TwoUids { line } => format!(in alloc; "several UIDs at line {line}"),
+        ItemError::NoMemory => String::from_str(alloc, "out of memory"),
     }
 }
 
@@ -46,7 +51,7 @@ fn bad_item_text(alloc: Global, href: &str, error: &ItemError) -> Result<String,
 {
     let mut text = in_quotes(alloc, href)?;
     text.push_str(": ")?;
-    text.push_str(item_error_text(error))?;
+    text.push_str(item_error_text(alloc, error)?.as_str())?;
     Ok(text)
 }
 
