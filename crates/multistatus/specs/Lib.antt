@@ -1,0 +1,10 @@
+pub mod Steps
+pub mod Texts
+pub mod Tags
+pub mod Tokens
+pub mod Elements
+pub mod Namespaces
+pub mod Rows
+pub mod Multistatus
+pub mod Reader
+pub mod Scopes

@@ -1,0 +1,22 @@
+//! Multistatus replies: the body of a reply of code 207, read into its rows.
+#![tactic(auto)]
+
+mod error;
+mod frames;
+mod laws;
+mod multistatus;
+mod reader;
+mod references;
+mod rows;
+mod scopes;
+mod status;
+mod tags;
+#[cfg(test)]
+mod tests;
+mod text;
+mod tokens;
+
+pub use error::MultiError;
+pub use laws::rows_are_unique;
+pub use multistatus::read_multistatus;
+pub use rows::{Prop, Response};

@@ -1,0 +1,266 @@
+//! Names resolved by the declarations in scope (Namespaces in XML 1.0).
+
+ghost use Rattle.std.specs.Prelude.{◌≡◌, [], ◌∷◌, ◌++◌, reverse, Some, IfOk, OnOk};
+ghost use Rattle.std.specs.List.{list_all};
+ghost use Rattle.std.specs.Option.{option_copied};
+ghost use Rattle.multistatus.specs.Namespaces as spec;
+ghost use Rattle.multistatus.specs.Reader.{scope_of, scope_in};
+ghost use Rattle.multistatus.specs.Scopes.{differing, opening};
+ghost use Rattle.multistatus.specs.Steps.{Gives};
+
+use crate::MultiError;
+use crate::reader::Level;
+use crate::tags::{Attribute, Name, Tag};
+use crate::text::empty;
+use sqlite_items::Items;
+use std::alloc::{AllocError, Global};
+use std::collections::BTreeSet;
+use values::Text;
+
+const XML_SPACE: &str = "http://www.w3.org/XML/1998/namespace";
+
+const XMLNS_SPACE: &str = "http://www.w3.org/2000/xmlns/";
+
+/// A declaration: a prefix, of no bytes for names without one, and its namespace.
+#[derive(Debug, Drop)]
+pub(crate) struct Binding {
+    pub prefix: Text,
+    pub space: Text,
+}
+
+/// A name with its namespace, of no bytes where it is in none.
+#[derive(Debug, Drop)]
+pub(crate) struct Expanded {
+    pub space: Text,
+    pub local: Text,
+}
+
+/// What a tag opens: its declarations, and the name of its element.
+#[derive(Debug, Drop)]
+pub(crate) struct Opened {
+    pub declared: Items<Binding>,
+    pub name: Expanded,
+}
+
+/// What a tag opens inside these elements.
+#[tactic(auto, unfolding(crate::specs::Namespaces::opening_of))]
+pub(crate) fn opening_of(alloc: Global, levels: &[Level], tag: &Tag) -> Result<Opened, MultiError>
+    ensures { Gives (λ o. opening o) result (spec.opening_of (scope_of (reverse levels.now)) tag.now) }
+{
+    let declared = declarations_of(alloc, tag.attributes.as_slice())?;
+    if !may_all_declare(declared.as_slice()) {
+        return Err(MultiError::Bad);
+    }
+    attributes_differ(
+        alloc,
+        declared.as_slice(),
+        levels,
+        tag.attributes.as_slice(),
+    )?;
+    let name = element_name(alloc, declared.as_slice(), levels, &tag.name)?;
+    Ok(Opened { declared, name })
+}
+
+/// The declarations among attributes.
+fn declarations_of(alloc: Global, attributes: &[Attribute]) -> Result<Items<Binding>, AllocError>
+    ensures { IfOk result (λ declared. declared ≡ spec.declarations_of attributes.now) }
+{
+    let mut declared = Items::new(alloc);
+    for attribute in attributes {
+        add_declaration(alloc, &mut declared, attribute)?;
+    }
+    Ok(declared)
+}
+
+/// Adds the declaration that an attribute is, if it is one.
+fn add_declaration(
+    alloc: Global,
+    declared: &mut Items<Binding>,
+    attribute: &Attribute,
+) -> Result<(), AllocError>
+    ensures { OnOk result (declared.new ≡ declared.old ++ spec.declarations_of (attribute.now ∷ [])) }
+{
+    match declaration_of(alloc, attribute)? {
+        Some(binding) => declared.push(binding),
+        None => Ok(()),
+    }
+}
+
+/// The declaration that an attribute is, if it is one.
+#[tactic(auto, unfolding(crate::specs::Namespaces::declaration_of))]
+fn declaration_of(alloc: Global, attribute: &Attribute) -> Result<Option<Binding>, AllocError>
+    ensures { IfOk result (λ found. found ≡ spec.declaration_of attribute.now) }
+{
+    let name = &attribute.name;
+    if name.prefix.as_str() == "xmlns" {
+        let prefix = Text::copy_of(alloc, name.local.as_str())?;
+        let space = Text::copy_of(alloc, attribute.value.as_str())?;
+        return Ok(Some(Binding { prefix, space }));
+    }
+    if name.prefix.as_str().is_empty() && name.local.as_str() == "xmlns" {
+        let prefix = empty(alloc);
+        let space = Text::copy_of(alloc, attribute.value.as_str())?;
+        return Ok(Some(Binding { prefix, space }));
+    }
+    Ok(None)
+}
+
+fn may_all_declare(declared: &[Binding]) -> bool
+    ensures { result ≡ list_all spec.may_declare declared.now }
+{
+    declared.iter().all(|binding| may_declare(binding))
+}
+
+/// Whether a declaration may stand.
+#[tactic(auto, unfolding(crate::specs::Namespaces::may_declare))]
+fn may_declare(binding: &Binding) -> bool
+    ensures { result ≡ spec.may_declare binding.now }
+{
+    let prefix = binding.prefix.as_str();
+    let space = binding.space.as_str();
+    keeps_xmlns(prefix, space)
+        && keeps_xml(prefix, space)
+        && (prefix.is_empty() || !space.is_empty())
+}
+
+/// Whether a declaration leaves `xmlns` alone.
+fn keeps_xmlns(prefix: &str, space: &str) -> bool
+    ensures { result ≡ spec.keeps_xmlns prefix.now space.now }
+{
+    prefix != "xmlns" && space != XMLNS_SPACE
+}
+
+/// Whether a declaration leaves `xml` as it is.
+fn keeps_xml(prefix: &str, space: &str) -> bool
+    ensures { result ≡ spec.keeps_xml prefix.now space.now }
+{
+    if prefix == "xml" {
+        space == XML_SPACE
+    } else {
+        space != XML_SPACE
+    }
+}
+
+/// The namespace of a prefix by a list of declarations.
+fn space_among<'b>(declared: &'b [Binding], prefix: &str) -> Option<&'b str>
+    ensures { option_copied result ≡ spec.space_of prefix.now declared.now }
+{
+    for binding in declared {
+        if prefix == binding.prefix.as_str() {
+            return Some(binding.space.as_str());
+        }
+    }
+    None
+}
+
+/// The namespace of a prefix, by the declarations of a tag and of the elements around it.
+fn space_of<'b>(declared: &'b [Binding], levels: &'b [Level], prefix: &str) -> Option<&'b str>
+    ensures { option_copied result ≡ spec.space_of prefix.now (scope_in declared.now levels.now) }
+{
+    if let Some(space) = space_among(declared, prefix) {
+        return Some(space);
+    }
+    space_around(levels, prefix)
+}
+
+/// The namespace of a prefix, by the declarations of elements.
+fn space_around<'b>(levels: &'b [Level], prefix: &str) -> Option<&'b str>
+    ensures { option_copied result ≡ spec.space_of prefix.now (scope_of (reverse levels.now)) }
+{
+    let mut n = levels.len();
+    while 0 < n {
+        n -= 1;
+        if let Some(space) = space_among(levels[n].declared.as_slice(), prefix) {
+            return Some(space);
+        }
+    }
+    if prefix == "xml" {
+        Some(XML_SPACE)
+    } else {
+        None
+    }
+}
+
+/// The name of an element.
+#[tactic(auto, unfolding(crate::specs::Namespaces::element_name))]
+fn element_name(
+    alloc: Global,
+    declared: &[Binding],
+    levels: &[Level],
+    name: &Name,
+) -> Result<Expanded, MultiError>
+    ensures { Gives (λ found. found) result (spec.element_name (scope_in declared.now levels.now) name.now) }
+{
+    match space_of(declared, levels, name.prefix.as_str()) {
+        Some(space) => named(alloc, space, name),
+        None => {
+            if !name.prefix.as_str().is_empty() {
+                return Err(MultiError::Bad);
+            }
+            named(alloc, "", name)
+        }
+    }
+}
+
+/// The local part of a name in a namespace.
+fn named(alloc: Global, space: &str, name: &Name) -> Result<Expanded, MultiError>
+    ensures { Gives (λ found. found) result (Some (record { space = space.now; local = name.now.local })) }
+{
+    let space = Text::copy_of(alloc, space)?;
+    let local = Text::copy_of(alloc, name.local.as_str())?;
+    Ok(Expanded { space, local })
+}
+
+/// The namespace of the name of an attribute.
+#[tactic(auto, unfolding(crate::specs::Namespaces::attribute_space))]
+fn attribute_space<'b>(
+    declared: &'b [Binding],
+    levels: &'b [Level],
+    prefix: &str,
+) -> Option<&'b str>
+    ensures { option_copied result ≡ spec.attribute_space (scope_in declared.now levels.now) prefix.now }
+{
+    if prefix.is_empty() {
+        return Some("");
+    }
+    if prefix == "xmlns" {
+        return Some(XMLNS_SPACE);
+    }
+    space_of(declared, levels, prefix)
+}
+
+/// The name of an attribute.
+#[tactic(auto, unfolding(crate::specs::Namespaces::attribute_name))]
+fn attribute_name(
+    alloc: Global,
+    declared: &[Binding],
+    levels: &[Level],
+    attribute: &Attribute,
+) -> Result<Expanded, MultiError>
+    ensures { Gives (λ found. found) result (spec.attribute_name (scope_in declared.now levels.now) attribute.now) }
+{
+    match attribute_space(declared, levels, attribute.name.prefix.as_str()) {
+        Some(space) => named(alloc, space, &attribute.name),
+        None => Err(MultiError::Bad),
+    }
+}
+
+/// Succeeds where all attributes have names, and no two the same.
+fn attributes_differ(
+    alloc: Global,
+    declared: &[Binding],
+    levels: &[Level],
+    attributes: &[Attribute],
+) -> Result<(), MultiError>
+    ensures { Gives (λ done. done) result (differing (scope_in declared.now levels.now) attributes.now) }
+{
+    let mut seen = BTreeSet::new(alloc);
+    for attribute in attributes {
+        let name = attribute_name(alloc, declared, levels, attribute)?;
+        let is_new = seen.insert((name.local, name.space))?;
+        if !is_new {
+            return Err(MultiError::Bad);
+        }
+    }
+    Ok(())
+}
