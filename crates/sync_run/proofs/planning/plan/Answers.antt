@@ -15,6 +15,7 @@ loop-cell-preserved-else-is_err c =
     let step = c.in-Ok.ensures.ok in
     let p = c.in-Ok.planned in
     record {
+      sorted = c.loop-cell.invariant.sorted;
       order = order_more _ _ _ _ _ _ c.loop-cell.steps.items _ c.in-Some.cell p popped step.0 pushed c.loop-cell.invariant.order;
       planned = subst (λ (l : List Planned). All IsPlanned l) (sym pushed) (All-push IsPlanned c.loop-cell.steps.items p c.loop-cell.invariant.planned (is_planned popped.ident c.in-Some.cell p popped.of_one step.0 step.1));
       by_table = subst (λ (l : List Planned). All (IsTabled c.in_ok-a.a.items c.in_ok-b.b.items c.args.rows.items) l) (sym pushed) (All-push (IsTabled c.in_ok-a.a.items c.in_ok-b.b.items c.args.rows.items) c.loop-cell.steps.items p c.loop-cell.invariant.by_table (tabled _ _ _ _ _ _ _ _ _ c.loop-cell.steps.items _ c.in-Some.cell p popped c.loop-cell.invariant.order step.0 c.loop-cell.invariant.searched));
@@ -30,6 +31,7 @@ returns-clause-falling c = c.loop-cell.invariant.order.falling
 pub loop-cell-preserved : goal.loop-cell-preserved
 loop-cell-preserved c =
     record {
+      sorted = c.loop-cell.invariant.sorted;
       order = order_rest _ _ _ _ _ _ c.loop-cell.steps.items c.in-Some.cell c.in-Some.ensures c.loop-cell.invariant.order;
       planned = c.loop-cell.invariant.planned;
       by_table = c.loop-cell.invariant.by_table;
@@ -42,6 +44,7 @@ loop-cell-preserved c =
 pub loop-cell-init : goal.loop-cell-init
 loop-cell-init c =
     record {
+      sorted = record { perm_a = c.in_ok-a.ensures.same; perm_b = c.in_ok-b.ensures.same; rising_a = c.in_ok-a.ensures.rising; rising_b = c.in_ok-b.ensures.rising };
       order = record {
         rising_a = c.in_ok-a.ensures.rising;
         rising_b = c.in_ok-b.ensures.rising;
@@ -61,13 +64,13 @@ loop-cell-init c =
 pub returns-clause-by_table : goal.returns-clause-by_table
 returns-clause-by_table c =
     by_table c.args.a.items c.args.b.items c.in_ok-a.a.items c.in_ok-b.b.items c.args.rows.items c.loop-cell.steps.items
-    (record { perm_a = c.in_ok-a.ensures.same; perm_b = c.in_ok-b.ensures.same; rising_a = c.in_ok-a.ensures.rising; rising_b = c.in_ok-b.ensures.rising })
+    c.loop-cell.invariant.sorted
     c.loop-cell.invariant.by_table
 
 pub returns-clause-plannable : goal.returns-clause-plannable
 returns-clause-plannable c =
     plannable c.args.a.items c.args.b.items c.in_ok-a.a.items c.in_ok-b.b.items c.loop-cell.a.items c.loop-cell.b.items c.args.rows.items c.loop-cell.rows.items c.loop-cell.refused
-    (record { perm_a = c.in_ok-a.ensures.same; perm_b = c.in_ok-b.ensures.same; rising_a = c.in_ok-a.ensures.rising; rising_b = c.in_ok-b.ensures.rising })
+    c.loop-cell.invariant.sorted
     c.in_default.ensures.0 c.in_default.ensures.1 c.in_default.ensures.2 c.in-None.is c.loop-cell.invariant.searched
 
 pub returns-in_err-b-clause-refused : goal.returns-in_err-b-clause-refused
@@ -78,5 +81,5 @@ returns-in_err-b-clause-refused c =
 pub returns-in-Some-refused-clause-refused : goal.returns-in-Some-refused-clause-refused
 returns-in-Some-refused-clause-refused c =
     refused_end c.args.a.items c.args.b.items c.in_ok-a.a.items c.in_ok-b.b.items c.loop-cell.a.items c.loop-cell.b.items c.args.rows.items c.loop-cell.rows.items c.loop-cell.refused c.in-Some-refused.cell c.not_built.result
-    (record { perm_a = c.in_ok-a.ensures.same; perm_b = c.in_ok-b.ensures.same; rising_a = c.in_ok-a.ensures.rising; rising_b = c.in_ok-b.ensures.rising })
+    c.loop-cell.invariant.sorted
     c.in_default.ensures.0 c.in_default.ensures.1 c.in_default.ensures.2 c.in-Some-refused.is c.loop-cell.invariant.searched c.not_built.ensures.names
