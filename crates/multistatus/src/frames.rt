@@ -295,9 +295,9 @@ fn ended_in_property(alloc: Global, property: Property, child: Frame) -> Result<
     let Frame::InHref(text) = child else {
         return Ok(Frame::InProperty(property));
     };
-    let href = Text::copy_of(alloc, trimmed(text.as_str()))?;
+    let inner = Text::copy_of(alloc, trimmed(text.as_str()))?;
     let mut property = property;
-    property.hrefs.push(href)?;
+    property.hrefs.push(inner)?;
     Ok(Frame::InProperty(property))
 }
 
