@@ -1,6 +1,10 @@
 -- Prefixes looked up from the inside outwards, and the declarations of a tag: lemmas on specs/Namespaces.antt
 use Rattle.std.proofs.Common.{◌≡◌, refl, ℕ, ◌+◌, ◌-◌, ◌<◌, zero, suc, Bool, true, false, cond, List, [], ◌∷◌, ◌++◌, length, take, get_or, reverse, Option, Some, None, sym, ◌∙◌, ap, add-one, arith}
-use Rattle.std.specs.Option.{option_or}
+use Rattle.std.specs.Option.{option_or, is_some}
+use Rattle.std.specs.Ordering.{nat_cmp}
+use Rattle.std.specs.Cmp.Lexicographic.{slice_cmp}
+use Rattle.std.specs.BTreeMap.{is_at}
+use Rattle.std.proofs.lemmas.Map.Text.{is_eq-slice_cmp}
 use Rattle.std.specs.Str.{bytes_eq}
 use Rattle.std.proofs.Math.Seq.{take-suc}
 use Rattle.std.proofs.lemmas.List.Elements.{filter_map-append}
@@ -9,6 +13,7 @@ use Rattle.multistatus.specs.declared.scopes.Binding.{Binding}
 use Rattle.multistatus.specs.declared.reader.Level.{Level}
 use Rattle.multistatus.specs.Namespaces.{space_of, declaration_of, declarations_of}
 use Rattle.multistatus.specs.Reader.{scope_of}
+use Rattle.multistatus.proofs.Runs.{bytes_same, bytes_equal}
 use Rattle.multistatus.proofs.Turns.{popped}
 
 found_by : (p : List ℕ) (b : Binding) (xs ys : List Binding) (t : Bool)
@@ -43,3 +48,47 @@ pub declared_next : (xs : List Attribute) (i : ℕ) (x : Attribute) (old new : L
 declared_next xs i x old new within is so_far grown =
     let one : take (i + 1) xs ≡ take i xs ++ x ∷ [] = ap (λ k. take k xs) (add-one i) ∙ take-suc xs i x within ∙ ap (λ (a : Attribute). take i xs ++ a ∷ []) (sym is) in
     grown ∙ ap (λ l. l ++ declarations_of (x ∷ [])) so_far ∙ sym (filter_map-append declaration_of (take i xs) (x ∷ [])) ∙ ap declarations_of (sym one)
+
+one_more : (q : List ℕ) (b : Binding) (listed : List Binding) → space_of q (listed ++ b ∷ []) ≡ option_or (space_of q listed) (cond (bytes_eq q b.prefix) (Some b.space) None)
+one_more q b listed = space_of-append q listed (b ∷ [])
+
+bytes_eq_flipped : (xs ys : List ℕ) → bytes_eq xs ys ≡ bytes_eq ys xs
+bytes_eq_flipped xs ys = flipped (bytes_eq xs ys) (bytes_eq ys xs)
+    (λ h. ap (λ z. bytes_eq ys z) (bytes_equal xs ys h) ∙ bytes_same ys)
+    (λ h. ap (λ z. bytes_eq xs z) (bytes_equal ys xs h) ∙ bytes_same xs)
+  where
+    flipped : (s t : Bool) → (s ≡ true → t ≡ true) → (t ≡ true → s ≡ true) → s ≡ t
+    flipped true t f g = sym (f refl)
+    flipped false true f g = g refl
+    flipped false false f g = refl
+
+known_by : (t : Bool) (o : Option (List ℕ)) (v : List ℕ) → (t ≡ true → is_some o ≡ true) → o ≡ option_or o (cond t (Some v) None)
+known_by true None v h = let clash : false ≡ true = h refl in cc
+known_by false None v h = refl
+known_by t (Some x) v h = refl
+
+-- a prefix that is there keeps its namespace
+pub map_known : (listed : List Binding) (b : Binding) (found : List ℕ → Option (List ℕ)) → ((q : List ℕ) → found q ≡ space_of q listed)
+    → is_some (found b.prefix) ≡ true → (q : List ℕ) → found q ≡ space_of q (listed ++ b ∷ [])
+map_known listed b found is known q =
+    is q ∙ known_by (bytes_eq q b.prefix) (space_of q listed) b.space
+    (λ same. ap is_some (ap (λ p. space_of p listed) (bytes_equal q b.prefix same) ∙ sym (is b.prefix)) ∙ known)
+    ∙ sym (one_more q b listed)
+
+new_by : (t : Bool) (o : Option (List ℕ)) (v : List ℕ) → (t ≡ true → is_some o ≡ false) → cond t (Some v) o ≡ option_or o (cond t (Some v) None)
+new_by true None v h = refl
+new_by true (Some x) v h = let clash : true ≡ false = h refl in cc
+new_by false None v h = refl
+new_by false (Some x) v h = refl
+
+-- and a new one gets its own
+pub map_new : (listed : List Binding) (b : Binding) (found more : List ℕ → Option (List ℕ)) → ((q : List ℕ) → found q ≡ space_of q listed)
+    → is_some (found b.prefix) ≡ false → ((q : List ℕ) → more q ≡ cond (is_at (slice_cmp nat_cmp b.prefix) q) (Some b.space) (found q))
+    → (q : List ℕ) → more q ≡ space_of q (listed ++ b ∷ [])
+map_new listed b found more is unknown updates q =
+    updates q
+    ∙ ap (λ (t : Bool). cond t (Some b.space) (found q)) (is_eq-slice_cmp b.prefix q ∙ bytes_eq_flipped b.prefix q)
+    ∙ ap (cond (bytes_eq q b.prefix) (Some b.space)) (is q)
+    ∙ new_by (bytes_eq q b.prefix) (space_of q listed) b.space
+    (λ same. ap is_some (ap (λ p. space_of p listed) (bytes_equal q b.prefix same) ∙ sym (is b.prefix)) ∙ unknown)
+    ∙ sym (one_more q b listed)

@@ -5,6 +5,7 @@ pub mod Tokens
 pub mod Elements
 pub mod Namespaces
 pub mod Rows
+pub mod Maps
 pub mod Multistatus
 pub mod Reader
 pub mod Scopes

@@ -1,6 +1,7 @@
 //! Multistatus replies: the body of a reply of code 207, read into its rows.
 #![tactic(auto)]
 
+mod endings;
 mod error;
 mod frames;
 mod laws;

@@ -6,9 +6,10 @@ ghost use Rattle.multistatus.specs.Scopes.{opening};
 ghost use Rattle.multistatus.specs.Steps.{Gives};
 
 use crate::MultiError;
-use crate::frames::{Frame, begun, ended, is_dav, with_text};
+use crate::endings::ended;
+use crate::frames::{Frame, begun, is_dav, with_text};
 use crate::rows::Response;
-use crate::scopes::{Binding, Opened, opening_of};
+use crate::scopes::{Declarations, Opened, opening_of};
 use crate::tags::{Name, Tag};
 use crate::tokens::Token;
 use sqlite_items::Items;
@@ -22,7 +23,7 @@ const MOST_NESTED: usize = 32;
 #[derive(Debug, Drop)]
 pub(crate) struct Level {
     pub name: Name,
-    pub declared: Items<Binding>,
+    pub declared: Declarations,
     pub frame: Frame,
 }
 

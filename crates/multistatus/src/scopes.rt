@@ -1,6 +1,8 @@
 //! Names resolved by the declarations in scope (Namespaces in XML 1.0).
 
-ghost use Rattle.std.specs.Prelude.{◌≡◌, [], ◌∷◌, ◌++◌, reverse, Some, IfOk, OnOk};
+ghost use Rattle.multistatus.specs.Maps.{IsMapOf};
+ghost use Rattle.multistatus.specs.declared.scopes.Binding.{Binding};
+ghost use Rattle.std.specs.Prelude.{List, ◌≡◌, [], ◌∷◌, ◌++◌, reverse, Some, IfOk, OnOk};
 ghost use Rattle.std.specs.List.{list_all};
 ghost use Rattle.std.specs.Option.{option_copied};
 ghost use Rattle.multistatus.specs.Namespaces as spec;
@@ -14,7 +16,8 @@ use crate::tags::{Attribute, Name, Tag};
 use crate::text::empty;
 use sqlite_items::Items;
 use std::alloc::{AllocError, Global};
-use std::collections::BTreeSet;
+use std::collections::{BTreeMap, BTreeSet};
+use std::marker::Model;
 use values::Text;
 
 const XML_SPACE: &str = "http://www.w3.org/XML/1998/namespace";
@@ -28,6 +31,83 @@ pub(crate) struct Binding {
     pub space: Text,
 }
 
+/// The declarations of a tag, in order and by prefix.
+#[derive(Debug, Drop)]
+pub(crate) struct Declarations {
+    listed: Items<Binding>,
+    by_prefix: BTreeMap<Text, Text>,
+}
+
+impl Model for Declarations {
+    ghost use Rattle.std.specs.Prelude.{List};
+    ghost use Rattle.multistatus.specs.Maps.{IsMapOf};
+    ghost use Rattle.multistatus.specs.declared.scopes.Binding.{Binding};
+
+    ghost Value = { List Binding };
+
+    ghost view = { λ d. d.listed };
+
+    ghost invariant = { λ d. IsMapOf d.by_prefix d.listed };
+}
+
+impl Declarations {
+    fn new(alloc: Global) -> Declarations
+        ensures { result ≡ [] }
+    {
+        Declarations {
+            listed: Items::new(alloc),
+            by_prefix: BTreeMap::new(alloc),
+        }
+    }
+
+    /// The declarations and one more.
+    fn with(self, alloc: Global, binding: Binding) -> Result<Declarations, AllocError>
+        ensures { IfOk result (λ more. more ≡ self ++ binding ∷ []) }
+    {
+        let Declarations {
+            mut listed,
+            by_prefix,
+        } = self;
+        let by_prefix = mapped(alloc, by_prefix, &binding)?;
+        listed.push(binding)?;
+        Ok(Declarations { listed, by_prefix })
+    }
+
+    fn as_slice(&self) -> &[Binding]
+        ensures { result.now ≡ self.now }
+    {
+        self.listed.as_slice()
+    }
+
+    /// The namespace of a prefix.
+    fn space(&self, prefix: &Text) -> Option<&str>
+        ensures { option_copied result ≡ spec.space_of prefix.now self.now }
+    {
+        match self.by_prefix.get(prefix) {
+            Some(space) => Some(space.as_str()),
+            None => None,
+        }
+    }
+}
+
+/// The map of declarations and one more, which the earlier ones come before.
+fn mapped(
+    alloc: Global,
+    by_prefix: BTreeMap<Text, Text>,
+    binding: &Binding,
+) -> Result<BTreeMap<Text, Text>, AllocError>
+    ensures { IfOk result (λ more. (listed : List Binding) → IsMapOf by_prefix listed → IsMapOf more (listed ++ binding.now ∷ [])) }
+{
+    if by_prefix.contains_key(&binding.prefix) {
+        return Ok(by_prefix);
+    }
+    let prefix = Text::copy_of(alloc, binding.prefix.as_str())?;
+    let space = Text::copy_of(alloc, binding.space.as_str())?;
+    let mut more = by_prefix;
+    more.insert(prefix, space)?;
+    Ok(more)
+}
+
 /// A name with its namespace, of no bytes where it is in none.
 #[derive(Debug, Drop)]
 pub(crate) struct Expanded {
@@ -38,7 +118,7 @@ pub(crate) struct Expanded {
 /// What a tag opens: its declarations, and the name of its element.
 #[derive(Debug, Drop)]
 pub(crate) struct Opened {
-    pub declared: Items<Binding>,
+    pub declared: Declarations,
     pub name: Expanded,
 }
 
@@ -51,38 +131,33 @@ pub(crate) fn opening_of(alloc: Global, levels: &[Level], tag: &Tag) -> Result<O
     if !may_all_declare(declared.as_slice()) {
         return Err(MultiError::Bad);
     }
-    attributes_differ(
-        alloc,
-        declared.as_slice(),
-        levels,
-        tag.attributes.as_slice(),
-    )?;
-    let name = element_name(alloc, declared.as_slice(), levels, &tag.name)?;
+    attributes_differ(alloc, &declared, levels, tag.attributes.as_slice())?;
+    let name = element_name(alloc, &declared, levels, &tag.name)?;
     Ok(Opened { declared, name })
 }
 
 /// The declarations among attributes.
-fn declarations_of(alloc: Global, attributes: &[Attribute]) -> Result<Items<Binding>, AllocError>
+fn declarations_of(alloc: Global, attributes: &[Attribute]) -> Result<Declarations, AllocError>
     ensures { IfOk result (λ declared. declared ≡ spec.declarations_of attributes.now) }
 {
-    let mut declared = Items::new(alloc);
+    let mut declared = Declarations::new(alloc);
     for attribute in attributes {
-        add_declaration(alloc, &mut declared, attribute)?;
+        declared = with_attribute(alloc, declared, attribute)?;
     }
     Ok(declared)
 }
 
-/// Adds the declaration that an attribute is, if it is one.
-fn add_declaration(
+/// The declarations and the one that an attribute is, if it is one.
+fn with_attribute(
     alloc: Global,
-    declared: &mut Items<Binding>,
+    declared: Declarations,
     attribute: &Attribute,
-) -> Result<(), AllocError>
-    ensures { OnOk result (declared.new ≡ declared.old ++ spec.declarations_of (attribute.now ∷ [])) }
+) -> Result<Declarations, AllocError>
+    ensures { IfOk result (λ more. more ≡ declared ++ spec.declarations_of (attribute.now ∷ [])) }
 {
     match declaration_of(alloc, attribute)? {
-        Some(binding) => declared.push(binding),
-        None => Ok(()),
+        Some(binding) => declared.with(alloc, binding),
+        None => Ok(declared),
     }
 }
 
@@ -141,40 +216,28 @@ fn keeps_xml(prefix: &str, space: &str) -> bool
     }
 }
 
-/// The namespace of a prefix by a list of declarations.
-fn space_among<'b>(declared: &'b [Binding], prefix: &str) -> Option<&'b str>
-    ensures { option_copied result ≡ spec.space_of prefix.now declared.now }
-{
-    for binding in declared {
-        if prefix == binding.prefix.as_str() {
-            return Some(binding.space.as_str());
-        }
-    }
-    None
-}
-
 /// The namespace of a prefix, by the declarations of a tag and of the elements around it.
-fn space_of<'b>(declared: &'b [Binding], levels: &'b [Level], prefix: &str) -> Option<&'b str>
+fn space_of<'b>(declared: &'b Declarations, levels: &'b [Level], prefix: &Text) -> Option<&'b str>
     ensures { option_copied result ≡ spec.space_of prefix.now (scope_in declared.now levels.now) }
 {
-    if let Some(space) = space_among(declared, prefix) {
+    if let Some(space) = declared.space(prefix) {
         return Some(space);
     }
     space_around(levels, prefix)
 }
 
 /// The namespace of a prefix, by the declarations of elements.
-fn space_around<'b>(levels: &'b [Level], prefix: &str) -> Option<&'b str>
+fn space_around<'b>(levels: &'b [Level], prefix: &Text) -> Option<&'b str>
     ensures { option_copied result ≡ spec.space_of prefix.now (scope_of (reverse levels.now)) }
 {
     let mut n = levels.len();
     while 0 < n {
         n -= 1;
-        if let Some(space) = space_among(levels[n].declared.as_slice(), prefix) {
+        if let Some(space) = levels[n].declared.space(prefix) {
             return Some(space);
         }
     }
-    if prefix == "xml" {
+    if prefix.as_str() == "xml" {
         Some(XML_SPACE)
     } else {
         None
@@ -185,13 +248,13 @@ fn space_around<'b>(levels: &'b [Level], prefix: &str) -> Option<&'b str>
 #[tactic(auto, unfolding(crate::specs::Namespaces::element_name))]
 fn element_name(
     alloc: Global,
-    declared: &[Binding],
+    declared: &Declarations,
     levels: &[Level],
     name: &Name,
 ) -> Result<Expanded, MultiError>
     ensures { Gives (λ found. found) result (spec.element_name (scope_in declared.now levels.now) name.now) }
 {
-    match space_of(declared, levels, name.prefix.as_str()) {
+    match space_of(declared, levels, &name.prefix) {
         Some(space) => named(alloc, space, name),
         None => {
             if !name.prefix.as_str().is_empty() {
@@ -214,16 +277,16 @@ fn named(alloc: Global, space: &str, name: &Name) -> Result<Expanded, MultiError
 /// The namespace of the name of an attribute.
 #[tactic(auto, unfolding(crate::specs::Namespaces::attribute_space))]
 fn attribute_space<'b>(
-    declared: &'b [Binding],
+    declared: &'b Declarations,
     levels: &'b [Level],
-    prefix: &str,
+    prefix: &Text,
 ) -> Option<&'b str>
     ensures { option_copied result ≡ spec.attribute_space (scope_in declared.now levels.now) prefix.now }
 {
-    if prefix.is_empty() {
+    if prefix.as_str().is_empty() {
         return Some("");
     }
-    if prefix == "xmlns" {
+    if prefix.as_str() == "xmlns" {
         return Some(XMLNS_SPACE);
     }
     space_of(declared, levels, prefix)
@@ -233,13 +296,13 @@ fn attribute_space<'b>(
 #[tactic(auto, unfolding(crate::specs::Namespaces::attribute_name))]
 fn attribute_name(
     alloc: Global,
-    declared: &[Binding],
+    declared: &Declarations,
     levels: &[Level],
     attribute: &Attribute,
 ) -> Result<Expanded, MultiError>
     ensures { Gives (λ found. found) result (spec.attribute_name (scope_in declared.now levels.now) attribute.now) }
 {
-    match attribute_space(declared, levels, attribute.name.prefix.as_str()) {
+    match attribute_space(declared, levels, &attribute.name.prefix) {
         Some(space) => named(alloc, space, &attribute.name),
         None => Err(MultiError::Bad),
     }
@@ -248,7 +311,7 @@ fn attribute_name(
 /// Succeeds where all attributes have names, and no two the same.
 fn attributes_differ(
     alloc: Global,
-    declared: &[Binding],
+    declared: &Declarations,
     levels: &[Level],
     attributes: &[Attribute],
 ) -> Result<(), MultiError>
