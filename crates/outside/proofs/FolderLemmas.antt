@@ -1,5 +1,5 @@
 -- What each answer of a folder says of its run.
-use Rattle.std.proofs.Common.{ℕ, inl, inr, Bool, true, false, Option, Some, None, Result, Ok, Err, ◌≡◌, List, [], ◌∷◌, refl, ap, sym, ◌∙◌, subst}
+use Rattle.std.proofs.Common.{ℕ, inl, inr, Bool, true, false, Option, Some, None, Result, Ok, Err, ◌≡◌, List, [], ◌∷◌, refl, sym, ◌∙◌, subst}
 use Rattle.outside.specs.Runs.{Leads}
 use Rattle.std.specs.Prelude.{◌&&◌, if◌then◌else◌}
 use Rattle.std.specs.FinMap as fin
@@ -14,9 +14,9 @@ use Rattle.outside.specs.declared.folder.Change.{Change}
 use Rattle.outside.specs.declared.folder.Change.TheVariants.{Done, Moved}
 use Rattle.outside.specs.declared.folder.Expect.{Expect}
 use Rattle.outside.specs.declared.folder.Expect.TheVariants.{Absent, Etag}
-use Rattle.outside.specs.Files.{FolderState, happens, IsTrueEvent, Evolves, Since, IsOutside, IsReadOf, IsWriteOf, IsMaking, IsNoWrite}
-use Rattle.outside.specs.FolderCalls.{AfterEdits, NamesAnswer, FoldersAnswer, ReadAnswer, ReplaceAnswer, RemoveAnswer, MakeAnswer, meets, has_etag, wrote, made}
-use Rattle.outside.proofs.Runs.{Runs-refl, Runs-trans, Runs-weaker, Runs-one, KeepsEvents}
+use Rattle.outside.specs.Files.{FolderState, happens, IsTrueEvent, Evolves, IsOutside, IsReadOf, IsWriteOf, IsMaking}
+use Rattle.outside.specs.FolderCalls.{NamesAnswer, FoldersAnswer, ReadAnswer, ReplaceAnswer, RemoveAnswer, MakeAnswer, meets}
+use Rattle.outside.proofs.Runs.{Runs-trans, Runs-weaker, Runs-one, KeepsEvents}
 
 -- a conditional write that acted, or was refused, and whose answer was lost
 pub replace_lost : (m t : FolderState) (name : List ℕ) (expect : Expect) (new : List ℕ) (change : Change) → ReplaceAnswer m t name expect new (Ok change) → ReplaceAnswer m t name expect new (Err Fault)

@@ -1,11 +1,10 @@
 -- What each call of a folder may do, where the folder tells its state.
-use Rattle.std.specs.Prelude.{if◌then◌else◌, is_some, ◌≡◌, ℕ, Bool, true, false, ◌&&◌, List, [], ◌∷◌, ◌⊎◌, ◌<◌, ◌≤◌, length, map, filter, nat_eq, Option, Some, None, is_none, Result, Ok, Err}
+use Rattle.std.specs.Prelude.{if◌then◌else◌, is_some, ◌≡◌, ℕ, Bool, true, false, ◌&&◌, List, ◌⊎◌, ◌<◌, ◌≤◌, length, map, filter, nat_eq, Option, Some, None, is_none, Result, Ok, Err}
 use Rattle.std.specs.FinMap as fin
 use Rattle.std.specs.List.{ends_with}
 use Rattle.std.specs.Str.{bytes_eq}
 use Rattle.std.specs.declared.vec.Vec.{Vec}
 use Rattle.std.specs.declared.alloc.Global.{Global}
-use Rattle.outside.specs.declared.folder.FolderEvent.{FolderEvent}
 use Rattle.outside.specs.declared.folder.FolderEvent.TheVariants.{Edited, Toggled, Wrote, Read, Made}
 use Rattle.outside.specs.declared.folder.FolderError.{FolderError}
 use Rattle.outside.specs.declared.folder.FolderError.TheVariants.{Fault, TooLong, NoMemory}

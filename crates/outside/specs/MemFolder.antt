@@ -1,5 +1,5 @@
 -- What the edits of a plan leave of a folder in memory (this project's own).
-use Rattle.std.specs.Prelude.{ℕ, ◌==◌, nat_le, List, [], ◌∷◌, Option, Some, None, if◌then◌else◌}
+use Rattle.std.specs.Prelude.{ℕ, ◌==◌, List, [], ◌∷◌, if◌then◌else◌}
 use Rattle.outside.specs.Files.{FolderState}
 use Rattle.outside.specs.FolderCalls.{after_edit}
 use Rattle.outside.specs.declared.plan.OutsideEdit.{OutsideEdit}

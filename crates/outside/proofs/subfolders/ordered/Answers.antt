@@ -1,4 +1,4 @@
-use Rattle.std.proofs.Common.{◌≡◌, ℕ, List, Bool, true, arith, sym}
+use Rattle.std.proofs.Common.{◌≡◌, ℕ, List, true, arith, sym}
 use Rattle.std.specs.List.{dedup}
 use Rattle.std.specs.Cmp.Lexicographic.{pointwise, texts_ties, nat_list_cmp_total, nat_list_eq_equiv, told_text}
 use Rattle.std.specs.Prelude.{nat_eq}
