@@ -1,10 +1,12 @@
 pub mod Components
+pub mod Edits
 pub mod Fingerprints
 pub mod Items
 pub mod Kinds
 pub mod Lines
 pub mod NormalForm
 pub mod Places
+pub mod Plain
 pub mod Read
 pub mod Refusals
 pub mod Seen

@@ -1,10 +1,11 @@
 //! Items: read from their text.
 
-ghost use Rattle.std.specs.Prelude.{◌≡◌, ◌⊎◌, ◌≤◌, Ok, Err, Some, None, IfOk, IfErr, List, [], map, is_some, length};
+ghost use Rattle.std.specs.Prelude.{◌≡◌, ◌⊎◌, ◌≤◌, Ok, Err, Some, None, IfOk, IfErr, List, [], true, map, is_some, length};
 ghost use Rattle.std.specs.Option.{option_map, unwrap_or};
 ghost use Rattle.hex.specs.Hex.{encode_lower};
-ghost use Rattle.item_text.specs.Lines as spec;
 ghost use Rattle.item_text.specs.Components.{placed};
+ghost use Rattle.item_text.specs.Edits.{with_uid, item_with_uid};
+ghost use Rattle.item_text.specs.Plain.{is_plain};
 ghost use Rattle.item_text.specs.Refusals as refused;
 ghost use Rattle.item_text.specs.Items.{item_of, read_item, item_of_text, uid_among};
 ghost use Rattle.item_text.specs.Seen.{line_seen};
@@ -12,8 +13,9 @@ ghost use Rattle.item_text.specs.Walks.{children_seen};
 ghost use Rattle.item_text.specs.Read.{IsTold};
 
 use crate::children::{Children, calendar_fault};
+use crate::edit::with_uid;
 use crate::fp::{Fp, fp_hex};
-use crate::lines::{Line, physical_lines, unfolded};
+use crate::lines::{Line, physical_lines, unfolded, without_mark};
 use crate::normal::fingerprint;
 use crate::walk::{Walk, go_over};
 use std::alloc::{AllocError, Global};
@@ -78,17 +80,6 @@ struct Told {
     ident: Text,
     has_uid: bool,
     version: Fp,
-}
-
-/// A text without the byte order mark at its front.
-fn without_mark(text: &str) -> &str
-    ensures { result.now ≡ spec.without_mark text.now }
-{
-    if text.starts_with("\u{feff}") {
-        &text[3..]
-    } else {
-        text
-    }
 }
 
 /// The refusal that the children of a VCALENDAR give, whose opening line has the number.
@@ -209,6 +200,34 @@ impl Item {
             ident,
             has_uid,
             version,
+        })
+    }
+
+    /// The item with another UID, where that is a plain ident: 1 to 100 bytes of ASCII letters, digits, `_`, `-`, `.` and `@`, the
+    /// first of them no `.` (this project's own rule). Each child of a VCALENDAR other than VTIMEZONE, or the top component of another
+    /// name, has the line `UID:` and the new UID, ended by CRLF, in place of its first UID line with all that is folded into it, or
+    /// directly behind its opening line where it has no UID (RFC 5545, section 3.8.4.7; RFC 6350, section 6.7.6). All other bytes stay.
+    /// `TooLong` where that text has more than 8 MiB.
+    #[tactic(auto, unfolding(crate::specs::Edits::item_with_uid))]
+    pub fn with_uid(&self, alloc: Global, uid: &str) -> Result<Item, ItemError>
+        requires { is_plain uid.now ≡ true }
+        ensures answer { (result ≡ Err ItemError.NoMemory) ⊎ (result ≡ item_with_uid self.now uid.now) }
+        ensures kept { IfOk result (λ item. (item.text ≡ with_uid self.now.text uid.now) × (item_of item.text ≡ Some item)) }
+    {
+        let Ok(edited) = with_uid(alloc, self.text.as_str(), uid) else {
+            return Err(ItemError::NoMemory);
+        };
+        if edited.len() as u64 > MAX_ITEM {
+            return Err(ItemError::TooLong);
+        }
+        let Ok(ident) = Text::copy_of(alloc, uid) else {
+            return Err(ItemError::NoMemory);
+        };
+        Ok(Item {
+            text: Text::of(edited),
+            ident,
+            has_uid: true,
+            version: self.version,
         })
     }
 

@@ -2,6 +2,7 @@
 #![tactic(auto)]
 
 mod children;
+mod edit;
 mod fp;
 mod item;
 mod lines;

@@ -56,8 +56,9 @@ fn continuation(line: &str) -> Option<&str>
     }
 }
 
+/// Whether a physical line, unless it is the first, continues the one before it.
 #[tactic(auto, unfolding(crate::specs::Lines::continues))]
-fn begins_blank(line: &[u8]) -> bool
+pub(crate) fn begins_blank(line: &[u8]) -> bool
     ensures { result ≡ spec.continues line.now }
 {
     let [first, ..] = line else {
@@ -122,6 +123,17 @@ pub(crate) fn unfolded<'a>(alloc: Global, physical: &[&'a str]) -> Result<Vec<Li
             Ok(all)
         }
         None => Ok(all),
+    }
+}
+
+/// A text without the byte order mark at its front.
+pub(crate) fn without_mark(text: &str) -> &str
+    ensures { result.now ≡ spec.without_mark text.now }
+{
+    if text.starts_with("\u{feff}") {
+        &text[3..]
+    } else {
+        text
     }
 }
 

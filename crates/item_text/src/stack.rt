@@ -5,6 +5,7 @@ ghost use Rattle.std.specs.List.{list_any};
 ghost use Rattle.std.specs.Option.{option_map};
 ghost use Rattle.item_text.specs.Components as spec;
 ghost use Rattle.item_text.specs.Components.{upper, is_timezone};
+ghost use Rattle.item_text.specs.Edits as edits;
 ghost use Rattle.item_text.specs.NormalForm as form;
 ghost use Rattle.item_text.specs.Refusals as refused;
 ghost use Rattle.item_text.specs.Kinds.{kind_seen};
@@ -48,6 +49,13 @@ fn is_timezone(name: &str) -> bool
     ensures { result ≡ is_timezone (upper name.now) }
 {
     is_word(name, "VTIMEZONE")
+}
+
+/// Whether a component of this name within a top component is a child of a VCALENDAR, and no VTIMEZONE.
+fn is_child(top: &str, name: &str) -> bool
+    ensures { result ≡ (spec.is_calendar (upper top.now) && not (is_timezone (upper name.now))) }
+{
+    is_calendar(top) && !is_timezone(name)
 }
 
 /// The fault of a line that isn't blank outside the component of the text.
@@ -190,8 +198,34 @@ impl<'a> Stack<'a> {
         match self.depth() {
             Depth::Empty => false,
             Depth::One(top) => !is_calendar(top),
-            Depth::Two(top, child) => is_calendar(top) && !is_timezone(child),
+            Depth::Two(top, child) => is_child(top, child),
             Depth::Deep(_) => false,
+        }
+    }
+
+    /// Whether a component of this name that opens here holds a UID.
+    #[tactic(auto, unfolding(crate::specs::Edits::opens_holder, crate::specs::Components::next_place, crate::specs::Components::holds_uid, crate::specs::Places::place_at))]
+    fn takes_holder(&self, name: &str) -> bool
+        ensures { result ≡ edits.opens_holder (place_seen self.now) (spec.Opens (upper name.now)) }
+    {
+        match self.depth() {
+            Depth::Empty => !(self.begun || is_calendar(name)),
+            Depth::One(top) => is_child(top, name),
+            Depth::Two(_, _) => false,
+            Depth::Deep(_) => false,
+        }
+    }
+
+    /// Whether a line of this kind opens a component here that holds a UID.
+    #[tactic(auto, unfolding(crate::specs::Edits::opens_holder))]
+    pub(crate) fn opens_holder(&self, kind: LineKind<'_>) -> bool
+        ensures { result ≡ edits.opens_holder (place_seen self.now) (kind_seen kind.entry) }
+    {
+        match kind {
+            LineKind::Opens(name) => self.takes_holder(name),
+            LineKind::Closes(_) => false,
+            LineKind::Property(_, _) => false,
+            LineKind::Blank => false,
         }
     }
 
@@ -219,7 +253,7 @@ impl<'a> Stack<'a> {
     {
         match self.depth() {
             Depth::Empty => false,
-            Depth::One(top) => is_calendar(top) && !is_timezone(name),
+            Depth::One(top) => is_child(top, name),
             Depth::Two(_, _) => false,
             Depth::Deep(_) => false,
         }

@@ -9,7 +9,8 @@ use Rattle.sha2.proofs.Facts256.{length-sha256}
 use Rattle.hex.specs.Hex.{lower_digits}
 use Rattle.hex.proofs.HexLemmas.{length-encode_with}
 use Rattle.outside.specs.Etag.{etag}
-use Rattle.store_model.specs.Names.{file_stem, is_plain, is_name_byte, begins_with_dot, candidate}
+use Rattle.item_text.specs.Plain.{is_plain, is_name_byte, begins_with_dot}
+use Rattle.store_model.specs.Names.{file_stem, candidate}
 
 stem_some : (ident : List ℕ) (b : Bool) → is_plain ident ≡ b → 0 < length (if b then ident else etag ident)
 unfolding etag

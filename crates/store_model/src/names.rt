@@ -3,7 +3,8 @@
 ghost use Rattle.std.specs.Prelude.{◌≡◌, ℕ, List, IfOk, string_bytes};
 ghost use Rattle.std.specs.List.{list_all};
 ghost use Rattle.std.specs.BTreeSet.{contains_text};
-ghost use Rattle.store_model.specs.Names.{is_name_byte, begins_with_dot, is_plain, file_stem, candidate, IsFreeName};
+ghost use Rattle.item_text.specs.Plain.{is_name_byte, begins_with_dot, is_plain};
+ghost use Rattle.store_model.specs.Names.{file_stem, candidate, IsFreeName};
 
 use outside::{NoMemory, etag_of};
 use std::alloc::Global;

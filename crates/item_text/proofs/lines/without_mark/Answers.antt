@@ -1,7 +1,7 @@
 use Rattle.std.proofs.Common.{◌∙◌, sym, [], ◌∷◌}
 use Rattle.std.proofs.lemmas.Str.Pattern.{starts_text}
 use Rattle.item_text.proofs.Readings.{marked, unmarked}
-use Rattle.item_text.proofs.item.without_mark.Goals as goal
+use Rattle.item_text.proofs.lines.without_mark.Goals as goal
 
 pub returns-then-starts_with : goal.returns-then-starts_with
 returns-then-starts_with c =
