@@ -46,7 +46,7 @@ back_word [] b h = ap (λ t. cond t [] (b ∷ [])) h
 back_word (c ∷ []) b h = ap (before_trimmed c) (back_word [] b h)
 back_word (c ∷ d ∷ bs) b h = ap (before_trimmed c) (back_word (d ∷ bs) b h)
 
-last_of : (text : List ℕ) (n : ℕ) → 0 < n → n ≤ length text → take n text ≡ take (n - 1) text ++ (get_or text (n - 1) 0 ∷ [])
+pub last_of : (text : List ℕ) (n : ℕ) → 0 < n → n ≤ length text → take n text ≡ take (n - 1) text ++ (get_or text (n - 1) 0 ∷ [])
 last_of text n h k =
     let below : n - 1 < length text = omega arith in
     let same : (n - 1) + 1 ≡ n = omega arith in

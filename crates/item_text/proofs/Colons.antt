@@ -80,9 +80,6 @@ behind_other b bs q h k =
 colon_no_quote : (b : ℕ) → is_colon b ≡ true → b ≡ 34 → ⊥
 colon_no_quote b h k = grind (arith, nat_tests)
 
-quote_no_colon : (b : ℕ) → b ≡ 34 → is_colon b ≡ false
-quote_no_colon b k = grind (arith, nat_tests)
-
 behind_here : (b : ℕ) (bs : List ℕ) (q : Bool) → is_colon b ≡ true → behind_colon q (b ∷ bs) ≡ cond q (behind_colon q bs) bs
 unfolding behind_colon
 behind_here b bs true h =

@@ -1,6 +1,6 @@
 -- Steps of an edit: one line more.
 use Rattle.std.proofs.Common.{◌≡◌, ◌≤◌, ◌<◌, ◌+◌, ℕ, suc, get_or, append-nil, append_assoc, ◌-◌, subst, Bool, true, false, cond, List, [], ◌∷◌, ◌++◌, map, length, take, drop, refl, sym, ◌∙◌, ap, Bor, arith}
-use Rattle.std.proofs.lemmas.List.{length-map, take-map, drop-map, drop-drop, drop_more, take_rest}
+use Rattle.std.proofs.lemmas.List.{take-map, drop-map, drop-drop, drop_more, take_rest}
 use Rattle.std.specs.List.{join_with_byte, join_by, flat_map, onto_first}
 use Rattle.item_text.specs.Lines.{continues}
 use Rattle.item_text.specs.declared.edit.Change.{Change}
@@ -26,15 +26,6 @@ all_next new change more parts rest = refl
 pub all_none : (all : List Change) → length all ≡ 0 → (new : List ℕ) (parts : List (List ℕ)) (rest : List (List (List ℕ))) → all_changed new all (parts ∷ rest) ≡ changed new Stays parts ++ all_changed new all rest
 all_none [] h new parts rest = all_stays new parts rest
 all_none (change ∷ more) h new parts rest = cc
-
-few : (b : Bool) (n m : ℕ) → n ≤ m → cond b (suc n) 0 ≤ suc m
-few true n m h = omega (arith, h)
-few false n m h = omega arith
-
-pub continuing_few : (parts : List (List ℕ)) → continuing parts ≤ length parts
-unfolding continuing
-continuing_few [] = omega arith
-continuing_few (part ∷ more) = few (continues part) (continuing more) (length more) (continuing_few more)
 
 -- the first line, and those behind it
 split_by : (b : Bool) (part next : List ℕ) (more : List (List ℕ)) → by_line (next ∷ more) ≡ (next ∷ take (continuing more) more) ∷ by_line (drop (continuing more) more)
@@ -75,9 +66,6 @@ counts_none = refl
 
 pub counts_all : (parts : List (Bor (List ℕ))) (count i : ℕ) → length parts ≤ i → continuing (lent parts) ≡ count + continuing (lent (drop i parts)) → continuing (lent parts) ≡ count
 counts_all parts count i h is = omega (arith, ap continuing (none_lent parts i h), counts_none, is)
-
-pub few_of : (parts : List (Bor (List ℕ))) (count : ℕ) → continuing (lent parts) ≡ count → count ≤ length parts
-few_of parts count h = omega (arith, continuing_few (lent parts), length-map parts (λ (x : Bor (List ℕ)). x.now), h)
 
 pub line_of : (parts : List (Bor (List ℕ))) (count : ℕ) → continuing (lent parts) ≡ count → (part : List ℕ) → by_line (part ∷ lent parts) ≡ (part ∷ take count (lent parts)) ∷ by_line (drop count (lent parts))
 line_of parts count h part = first_line part (lent parts) ∙ ap (λ (n : ℕ). (part ∷ take n (lent parts)) ∷ by_line (drop n (lent parts))) h

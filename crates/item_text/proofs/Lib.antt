@@ -11,6 +11,7 @@ pub mod LineKinds
 pub mod Marks
 pub mod Order
 pub mod Parts
+pub mod Physical
 pub mod Relabelled
 pub mod Renamed
 pub mod RoleSteps

@@ -16,9 +16,6 @@ kind_by-is : (line : List ℕ) → kind_of line ≡ kind_by (begins_with (codes 
 unfolding kind_of kind_by
 kind_by-is line = refl
 
-begin_word : List ℕ → Bool
-begin_word head = bytes_eq (upper head) (codes "BEGIN")
-
 not_empty : (n : ℕ) → true ≡ nat_eq (suc n) 0 → ⊥
 not_empty n h = let e : nat_eq (suc n) 0 ≡ false = grind (arith, nat_tests) in false≢true (sym e ∙ sym h)
 

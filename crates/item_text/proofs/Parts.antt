@@ -21,7 +21,7 @@ abbrev text_of : Line → List ℕ
 text_of line = line.text
 
 -- whether the first of these physical lines continues another
-abbrev goes_on : List (List ℕ) → Bool
+abbrev pub goes_on : List (List ℕ) → Bool
 goes_on [] = false
 goes_on (line ∷ rest) = continues line
 
@@ -99,7 +99,7 @@ some_length : (n : ℕ) → (suc n == 0) ≡ false
 some_length n = grind (arith, nat_tests)
 
 -- the first physical line continues another where the first part does
-goes_on_part : (part : List ℕ) (rest : List (List ℕ)) → goes_on (lines_of_parts (part ∷ rest)) ≡ continues part
+pub goes_on_part : (part : List ℕ) (rest : List (List ℕ)) → goes_on (lines_of_parts (part ∷ rest)) ≡ continues part
 unfolding continues
 goes_on_part [] [] = refl
 goes_on_part (b ∷ bs) [] = ap (λ (t : Bool). goes_on (cond t [] ((b ∷ bs) ∷ []))) (some_length (length bs))
@@ -304,7 +304,7 @@ some_part_by false b [] = (b ∷ [], [], refl)
 some_part_by false b (part ∷ rest) = (b ∷ part, rest, refl)
 
 -- what is cut has a first part
-some_part : (text : List ℕ) → (part : List ℕ) × (rest : List (List ℕ)) × (slice_split (λ b. b == 10) text ≡ part ∷ rest)
+pub some_part : (text : List ℕ) → (part : List ℕ) × (rest : List (List ℕ)) × (slice_split (λ b. b == 10) text ≡ part ∷ rest)
 some_part [] = ([], [], refl)
 some_part (b ∷ bs) = some_part_by (b == 10) b (slice_split (λ b. b == 10) bs)
 
@@ -328,11 +328,11 @@ abbrev mark : List ℕ
 mark = 239 ∷ 187 ∷ 191 ∷ []
 
 -- what the parts behind the first add to the text
-abbrev behind_first : List (List ℕ) → List ℕ
+abbrev pub behind_first : List (List ℕ) → List ℕ
 behind_first [] = []
 behind_first (part ∷ rest) = 10 ∷ join_with_byte 10 (part ∷ rest)
 
-joined_first : (part : List ℕ) (rest : List (List ℕ)) → join_with_byte 10 (part ∷ rest) ≡ part ++ behind_first rest
+pub joined_first : (part : List ℕ) (rest : List (List ℕ)) → join_with_byte 10 (part ∷ rest) ≡ part ++ behind_first rest
 joined_first part [] = sym (append-nil part)
 joined_first part (next ∷ rest) = refl
 

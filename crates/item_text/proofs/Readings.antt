@@ -1,13 +1,13 @@
 -- Readings: what a text reads as, by what a walk found in its lines.
-use Rattle.std.proofs.Common.{◌≡◌, ℕ, suc, ◌<◌, ◌≤◌, Bool, true, false, cond, List, [], ◌∷◌, ◌++◌, map, length, drop, Option, Some, None, is_some, Ok, Err, refl, sym, ◌∙◌, ap, arith, append-nil, nat_lt, nat_eq, Bor}
+use Rattle.std.proofs.Common.{◌≡◌, ℕ, ◌≤◌, Bool, true, false, cond, List, [], ◌∷◌, ◌++◌, length, drop, Option, Some, None, is_some, Ok, Err, refl, sym, ◌∙◌, ap, arith, append-nil, nat_lt, nat_eq, Bor}
 use Rattle.std.specs.Option.{option_map, unwrap_or}
 use Rattle.std.specs.Result.{result_ok}
-use Rattle.std.specs.List.{starts_with, slice_split, onto_first}
+use Rattle.std.specs.List.{starts_with}
 use Rattle.std.specs.Str.{is_utf8, IsUtf8}
 use Rattle.std.specs.Str.Lossy.{utf8_valid_len}
-use Rattle.std.specs.Str.Lines.{lines, lines_of_parts}
+use Rattle.std.specs.Str.Lines.{lines}
 use Rattle.std.proofs.lemmas.Str.{is_utf8-from_IsUtf8, IsUtf8-from_is_utf8}
-use Rattle.std.proofs.lemmas.List.{length-drop, length-map}
+use Rattle.std.proofs.lemmas.List.{length-drop}
 use Rattle.std.proofs.lemmas.Bool.Decides.{nat_tests}
 use Rattle.hex.specs.Hex.{encode_lower}
 use Rattle.sha2.specs.Sha256.{sha256}
@@ -37,25 +37,6 @@ shorter false text = omega arith
 unmarked_short : (text : List ℕ) → length (without_mark text) ≤ length text
 unfolding without_mark
 unmarked_short text = shorter (starts_with nat_eq text (239 ∷ 187 ∷ 191 ∷ [])) text
-
--- each line but the last takes a line feed, and the last has a byte
-one_part : (t : Bool) (x : List ℕ) → length {A = List ℕ} (cond t [] (x ∷ [])) ≤ 1
-one_part true x = omega arith
-one_part false x = omega arith
-
-part_lines : (b : ℕ) (parts : List (List ℕ)) (n : ℕ) → length (lines_of_parts parts) ≤ n → length (lines_of_parts (onto_first b parts)) ≤ suc n
-part_lines b [] n h = omega arith
-part_lines b (x ∷ []) n h = omega (arith, one_part (nat_eq (length (b ∷ x)) 0) (b ∷ x))
-part_lines b (x ∷ y ∷ more) n h = omega arith
-
-split_lines : (t : Bool) (b : ℕ) (parts : List (List ℕ)) (n : ℕ) → length (lines_of_parts parts) ≤ n → length (lines_of_parts (cond t ([] ∷ parts) (onto_first b parts))) ≤ suc n
-split_lines true b [] n h = omega arith
-split_lines true b (x ∷ more) n h = omega arith
-split_lines false b parts n h = part_lines b parts n h
-
-pub few_lines : (bs : List ℕ) → length (lines bs) ≤ length bs
-few_lines [] = omega arith
-few_lines (b ∷ bs) = split_lines (nat_eq b 10) b (slice_split (λ b. nat_eq b 10) bs) (length bs) (few_lines bs)
 
 -- the refusal by what was found
 unfoldable pub refusal_by : ℕ → Found → Option ItemError
@@ -128,28 +109,20 @@ text_taken text count all ident version has_uid h k r i u v =
     ∙ (ap (λ (x : Bool). Ok (record { text = text; ident = ident; has_uid = x; version = fingerprint (placed all) })) (sym u)
     ∙ ap (λ (x : List ℕ). Ok (record { text = text; ident = ident; has_uid = has_uid; version = x })) (sym v))))
 
-pub lines_are : (text bs : List ℕ) (physical : List (List ℕ)) (all : List Line) → bs ≡ without_mark text → physical ≡ lines bs → all ≡ unfolded physical → all ≡ logical_lines text
+-- the text without its mark
+pub body_lines : (text body : List ℕ) → body ≡ without_mark text → unfolded (lines body) ≡ logical_lines text
 unfolding logical_lines physical_lines
-lines_are text bs physical all h k e = e ∙ ap unfolded (k ∙ ap lines h)
+body_lines text body h = ap (λ (bs : List ℕ). unfolded (lines bs)) h
 
-pub count_is : (text bs : List ℕ) (physical : List (List ℕ)) → bs ≡ without_mark text → physical ≡ lines bs → length physical ≡ length (physical_lines text)
+pub body_count : (text body : List ℕ) → body ≡ without_mark text → length (lines body) ≡ length (physical_lines text)
 unfolding physical_lines
-count_is text bs physical h k = ap length (k ∙ ap lines h)
+body_count text body h = ap (λ (bs : List ℕ). length (lines bs)) h
 
-pub few_physical : (text bs : List ℕ) (physical : List (List ℕ)) → bs ≡ without_mark text → physical ≡ lines bs → length physical ≤ length text
-few_physical text bs physical h k =
-    omega (arith, ap length k, ap length h, few_lines bs, unmarked_short text)
-
--- a list of bytes by the size of its text and whether it is UTF-8
-long : (n m : ℕ) → n < m → nat_lt n m ≡ true
-long n m h = grind (arith, nat_tests)
+pub body_short : (text body : List ℕ) → body ≡ without_mark text → length body ≤ length text
+body_short text body h = omega (arith, ap length h, unmarked_short text)
 
 short : (n m : ℕ) → m ≤ n → nat_lt n m ≡ false
 short n m h = grind (arith, nat_tests)
-
-pub read_long : (text : List ℕ) → 8388608 < length text → read_item text ≡ Err TooLong
-unfolding read_item
-read_long text h = ap (λ (b : Bool). cond b (Err TooLong) (cond (is_utf8 text) (item_of_text text) (Err (NotUtf8 (utf8_valid_len text))))) (long 8388608 (length text) h)
 
 short_by : (text : List ℕ) → length text ≤ 8388608 → read_item text ≡ cond (is_utf8 text) (item_of_text text) (Err (NotUtf8 (utf8_valid_len text)))
 unfolding read_item
@@ -172,12 +145,6 @@ item_read text item h = ap result_ok h
 pub some_lent : (o : Option (Bor (List ℕ))) → is_some o ≡ is_some (option_map (λ (x : Bor (List ℕ)). x.now) o)
 some_lent None = refl
 some_lent (Some x) = refl
-
-pub few_lent : (text bs : List ℕ) (physical : List (Bor (List ℕ))) → bs ≡ without_mark text → map (λ (x : Bor (List ℕ)). x.now) physical ≡ lines bs → length physical ≤ length text
-few_lent text bs physical h k = omega (arith, length-map physical (λ (x : Bor (List ℕ)). x.now), few_physical text bs (map (λ (x : Bor (List ℕ)). x.now) physical) h k)
-
-pub count_lent : (text bs : List ℕ) (physical : List (Bor (List ℕ))) → bs ≡ without_mark text → map (λ (x : Bor (List ℕ)). x.now) physical ≡ lines bs → length physical ≡ length (physical_lines text)
-count_lent text bs physical h k = sym (length-map physical (λ (x : Bor (List ℕ)). x.now)) ∙ count_is text bs (map (λ (x : Bor (List ℕ)). x.now) physical) h k
 
 pub read_taken : (text utf8 copy ident version : List ℕ) (has_uid : Bool) → length text ≤ 8388608 → utf8 ≡ text → IsUtf8 text → item_of_text utf8 ≡ Ok (record { text = utf8; ident = ident; has_uid = has_uid; version = version })
     → copy ≡ utf8 → read_item text ≡ Ok (record { text = copy; ident = ident; has_uid = has_uid; version = version })

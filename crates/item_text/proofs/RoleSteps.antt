@@ -1,13 +1,10 @@
 -- Roles of lines: one line more.
-use Rattle.std.proofs.Common.{◌≡◌, ℕ, ◌≤◌, List, [], ◌∷◌, ◌++◌, map, length, drop, None, refl, sym, ◌∙◌, ap, append-nil, append_assoc}
+use Rattle.std.proofs.Common.{◌≡◌, ℕ, List, [], ◌∷◌, ◌++◌, map, None, refl, sym, ◌∙◌, ap, append-nil, append_assoc}
 use Rattle.std.specs.List.{filter_map}
-use Rattle.std.proofs.lemmas.List.{drop_all}
 use Rattle.item_text.specs.Lines.{Line, trimmed}
 use Rattle.item_text.specs.Components.{Kind, Place, Before, placed, placed_from, next_place, kind_of}
 use Rattle.item_text.specs.Refusals.{fault_at, fault_of}
-use Rattle.item_text.specs.Seen.{line_seen}
 use Rattle.item_text.specs.declared.edit.Role.{Role}
-use Rattle.item_text.specs.declared.lines.Line as seen
 use Rattle.item_text.specs.Edits.{role_at, role_of}
 use Rattle.item_text.proofs.Relabelled.{none_line, roles_line}
 
@@ -23,8 +20,8 @@ met_first place roles all h k fine = record {
   fine = ap (λ (p : Place). filter_map fault_of (placed_from p all)) h ∙ fine;
 }
 
-pub kind_met : (line : Line) (text cut : List ℕ) (kind : Kind) → text ≡ line.text → cut ≡ trimmed text → kind ≡ kind_of cut → kind_of (trimmed line.text) ≡ kind
-kind_met line text cut kind h k e = sym (e ∙ (ap kind_of k ∙ ap (λ (t : List ℕ). kind_of (trimmed t)) h))
+pub kind_met : (text cut : List ℕ) (kind : Kind) → cut ≡ trimmed text → kind ≡ kind_of cut → kind_of (trimmed text) ≡ kind
+kind_met text cut kind h k = sym (k ∙ ap kind_of h)
 
 pub fits_met : {place : Place} {roles all : List Role} {lines rest : List Line} {line : Line} {kind : Kind} → Met place roles lines all → lines ≡ line ∷ rest → kind_of (trimmed line.text) ≡ kind → fault_at line.number place kind ≡ None
 fits_met {place} {roles} {all} {lines} {rest} {line} {kind} met e k =
@@ -50,6 +47,5 @@ no_roles : (place : Place) → map role_of (placed_from place []) ≡ []
 unfolding placed_from
 no_roles place = refl
 
-pub met_all : {place : Place} {roles all : List Role} (lines : List seen.Line) (i : ℕ) → length lines ≤ i → Met place roles (map line_seen (drop i lines)) all → roles ≡ all
-met_all {place} {roles} {all} lines i h met =
-    sym (append-nil roles) ∙ (ap (λ (rs : List Role). roles ++ rs) (sym (ap (λ (ls : List seen.Line). map role_of (placed_from place (map line_seen ls))) (drop_all i lines h) ∙ no_roles place)) ∙ met.same)
+pub met_all : {place : Place} {roles all : List Role} {lines : List Line} → lines ≡ [] → Met place roles lines all → roles ≡ all
+met_all {place} {roles} {all} {lines} h met = sym (append-nil roles) ∙ (ap (λ (rs : List Role). roles ++ rs) (sym (ap (λ (ls : List Line). map role_of (placed_from place ls)) h ∙ no_roles place)) ∙ met.same)

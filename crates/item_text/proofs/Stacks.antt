@@ -12,21 +12,6 @@ use Rattle.item_text.specs.Places.{place_at}
 abbrev pub names : List (Bor (List ℕ)) → List (List ℕ)
 names xs = reverse (map (λ (x : Bor (List ℕ)). upper x.now) xs)
 
-pub names_none : (xs : List (Bor (List ℕ))) → length xs ≡ 0 → names xs ≡ []
-names_none [] h = refl
-names_none (x ∷ xs) h = absurd (omega arith)
-
-pub names_one : (xs : List (Bor (List ℕ))) (d : Bor (List ℕ)) → length xs ≡ 1 → names xs ≡ upper (get_or xs 0 d).now ∷ []
-names_one [] d h = absurd (omega arith)
-names_one (x ∷ []) d h = refl
-names_one (x ∷ y ∷ xs) d h = absurd (omega arith)
-
-pub names_two : (xs : List (Bor (List ℕ))) (d : Bor (List ℕ)) → length xs ≡ 2 → names xs ≡ upper (get_or xs 1 d).now ∷ upper (get_or xs 0 d).now ∷ []
-names_two [] d h = absurd (omega arith)
-names_two (x ∷ []) d h = absurd (omega arith)
-names_two (x ∷ y ∷ []) d h = refl
-names_two (x ∷ y ∷ z ∷ xs) d h = absurd (omega arith)
-
 pub names_push : (xs : List (Bor (List ℕ))) (x : Bor (List ℕ)) → names (xs ++ (x ∷ [])) ≡ upper x.now ∷ names xs
 names_push xs x =
     ap reverse (map-append (λ (x : Bor (List ℕ)). upper x.now) xs (x ∷ []))

@@ -1,8 +1,5 @@
 -- Steps of a walk: what the lines give, one line more.
-use Rattle.std.proofs.Common.{◌≡◌, ℕ, Bool, true, false, cond, List, [], ◌∷◌, ◌++◌, map, Option, Some, None, refl, sym, ◌∙◌, ap, append_assoc, ◌+◌, ◌<◌, length, get_or, drop}
-use Rattle.std.proofs.lemmas.List.{drop_more}
-use Rattle.item_text.specs.Seen.{line_seen}
-use Rattle.item_text.specs.declared.lines.Line as seen
+use Rattle.std.proofs.Common.{◌≡◌, ℕ, Bool, true, false, cond, List, [], ◌∷◌, ◌++◌, map, Option, Some, None, refl, sym, ◌∙◌, ap, append_assoc}
 use Rattle.std.specs.Option.{option_map, option_to_list}
 use Rattle.std.specs.List.{filter, filter_map, find, cons_option}
 use Rattle.item_text.specs.Lines.{Line, trimmed}
@@ -158,6 +155,3 @@ unfolding found_behind
 fault_seen line rest place uid calendar children kept e h =
     ap (λ (ps : List Placed). first_of (filter_map fault_of ps)) (sym (placed_first line rest place (trimmed line.text) (kind_of (trimmed line.text)) refl refl))
     ∙ fault_shown line place (trimmed line.text) (kind_of (trimmed line.text)) (placed_from (next_place place (kind_of (trimmed line.text))) rest) e h
-
-pub next_seen : (xs : List seen.Line) (i : ℕ) (x : seen.Line) → i < length xs → x ≡ get_or xs i x → map line_seen (drop i xs) ≡ line_seen x ∷ map line_seen (drop (i + 1) xs)
-next_seen xs i x h e = ap (map line_seen) (drop_more xs i x h) ∙ ap (λ (y : seen.Line). line_seen y ∷ map line_seen (drop (i + 1) xs)) (sym e)

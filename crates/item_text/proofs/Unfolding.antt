@@ -1,12 +1,11 @@
 -- Unfolding: one physical line more.
-use Rattle.std.proofs.Common.{◌≡◌, ℕ, suc, ◌-◌, ◌<◌, true, false, cond, List, [], ◌∷◌, ◌++◌, map, length, get_or, drop, Some, None, refl, sym, ◌∙◌, ap, arith, append_assoc, append-nil}
+use Rattle.std.proofs.Common.{◌≡◌, ℕ, suc, ◌+◌, ◌<◌, true, false, cond, List, [], ◌∷◌, ◌++◌, length, get_or, drop, Some, None, refl, sym, ◌∙◌, ap, arith, append_assoc, append-nil}
 use Rattle.std.specs.Str.{IsUtf8, IsCharBoundary}
 use Rattle.std.proofs.lemmas.Str.{IsCharBoundary-after_ascii}
-use Rattle.std.proofs.lemmas.List.{map-append}
 use Rattle.std.proofs.lemmas.Bool.Decides.{nat_tests}
 use Rattle.item_text.specs.Lines.{Line, is_blank, continues, continuation, lines_from, unfolded}
-use Rattle.item_text.specs.Seen.{behind, line_seen}
-use Rattle.item_text.specs.declared.lines.Line as seen
+use Rattle.item_text.specs.Seen.{behind}
+use Rattle.item_text.proofs.Parts.{goes_on}
 
 first_ascii : (b : ℕ) → is_blank b ≡ true → b < 128
 first_ascii b h = grind (arith, nat_tests)
@@ -38,9 +37,9 @@ lines_begin n line rest h = ap (λ t. cond t (lines_from (suc n) rest) (record {
 abbrev pub line_of : ℕ → List ℕ → Line
 line_of n text = record { number = n; text = text }
 
-pub behind_first : (n : ℕ) (line : List ℕ) (rest : List (List ℕ)) → behind None n (line ∷ rest) ≡ behind (Some (line_of (suc n) line)) (suc n) rest
+pub behind_line : (n : ℕ) (line : List ℕ) (rest : List (List ℕ)) → behind None n (line ∷ rest) ≡ behind (Some (line_of (suc n) line)) (suc n) rest
 unfolding behind
-behind_first n line rest = refl
+behind_line n line rest = refl
 
 pub behind_more : (n : ℕ) (begun : Line) (line : List ℕ) (rest : List (List ℕ)) → continues line ≡ true
     → behind (Some begun) n (line ∷ rest) ≡ behind (Some (line_of begun.number (begun.text ++ drop 1 line))) (suc n) rest
@@ -71,25 +70,12 @@ unfolding behind unfolded
 behind_all [] = refl
 behind_all (line ∷ rest) = refl
 
-above : (n : ℕ) → 0 < n → suc (n - 1) ≡ n
-above n h = omega arith
+-- the line that is begun ends where the next physical line doesn't continue it
+pub begun_ends : (n : ℕ) (begun : Line) (all : List (List ℕ)) → goes_on all ≡ false → behind (Some begun) n all ≡ begun ∷ behind None n all
+begun_ends n begun [] h = behind_end n begun ∙ ap (λ (ls : List Line). begun ∷ ls) (sym (behind_none n))
+begun_ends n begun (line ∷ rest) h = behind_next n begun line rest h ∙ ap (λ (ls : List Line). begun ∷ ls) (sym (behind_line n line rest))
 
-pub first_at : (n : ℕ) (line : List ℕ) (rest : List (List ℕ)) → 0 < n → behind (Some (line_of n line)) n rest ≡ behind None (n - 1) (line ∷ rest)
-first_at n line rest h = sym (behind_first (n - 1) line rest ∙ ap (λ (m : ℕ). behind (Some (line_of m line)) m rest) (above n h))
-
-pub more_at : (n : ℕ) (begun : Line) (line text : List ℕ) (rest : List (List ℕ)) → 0 < n → continues line ≡ true → text ≡ begun.text ++ drop 1 line
-    → behind (Some (line_of begun.number text)) n rest ≡ behind (Some begun) (n - 1) (line ∷ rest)
-more_at n begun line text rest h k e =
-    ap (λ (t : List ℕ). behind (Some (line_of begun.number t)) n rest) e
-    ∙ sym (behind_more (n - 1) begun line rest k ∙ ap (λ (m : ℕ). behind (Some (line_of begun.number (begun.text ++ drop 1 line))) m rest) (above n h))
-
-pub next_at : (n : ℕ) (begun : Line) (line : List ℕ) (rest : List (List ℕ)) → 0 < n → continues line ≡ false
-    → begun ∷ behind (Some (line_of n line)) n rest ≡ behind (Some begun) (n - 1) (line ∷ rest)
-next_at n begun line rest h k =
-    sym (behind_next (n - 1) begun line rest k ∙ ap (λ (m : ℕ). begun ∷ behind (Some (line_of m line)) m rest) (above n h))
-
--- a line pushed behind others
-pub pushed : (xs ys : List seen.Line) (x : seen.Line) (rest all : List Line) → ys ≡ xs ++ (x ∷ []) → line_seen x ∷ rest ≡ all → map line_seen ys ++ rest ≡ map line_seen xs ++ all
-pushed xs ys x rest all e h =
-    ap (λ (zs : List seen.Line). map line_seen zs ++ rest) e
-    ∙ (ap (λ zs. zs ++ rest) (map-append line_seen xs (x ∷ [])) ∙ (append_assoc (map line_seen xs) (line_seen x ∷ []) rest ∙ ap (λ zs. map line_seen xs ++ zs) h))
+pub nothing_left : (n : ℕ) (all : List (List ℕ)) → behind None n all ≡ [] → n ≡ n + length all
+unfolding behind
+nothing_left n [] h = omega arith
+nothing_left n (line ∷ rest) h = cc

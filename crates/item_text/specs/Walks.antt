@@ -6,7 +6,6 @@ use Rattle.item_text.specs.Lines.{Line}
 use Rattle.item_text.specs.Components.{Place, Before, Placed, placed, placed_from, last_place, uid_of}
 use Rattle.item_text.specs.NormalForm.{is_kept, written}
 use Rattle.item_text.specs.Refusals.{first_of, else_of, fault_of, Mark, mark_of, Child, children_of, children, first_uid, opens_calendar}
-use Rattle.item_text.specs.Seen.{bytes_of}
 use Rattle.item_text.specs.Places.{place_seen}
 use Rattle.item_text.specs.declared.item.ItemError.{ItemError}
 use Rattle.item_text.specs.declared.children.Child as seen
@@ -60,4 +59,4 @@ found_behind place uid calendar children kept rest = record {
 -- what a walk and the lines that it hasn't met give
 abbrev pub found_from : Walk → List Line → Found
 found_from walk rest =
-    found_behind (place_seen walk.stack) (option_map (λ x. x.now) walk.uid) walk.calendar (children_seen walk.children) (map bytes_of walk.kept.items) rest
+    found_behind (place_seen walk.stack) (option_map (λ x. x.now) walk.uid) walk.calendar (children_seen walk.children) (map (λ x. x.now) walk.kept.items) rest

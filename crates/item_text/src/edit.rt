@@ -1,6 +1,6 @@
 //! The text of an item with another UID.
 
-ghost use Rattle.std.specs.Prelude.{◌≡◌, ◌≤◌, ◌==◌, ◌++◌, ℕ, false, List, [], ◌∷◌, IfOk, OnOk, map, take, drop, length, string_bytes};
+ghost use Rattle.std.specs.Prelude.{◌≡◌, ◌<◌, ◌≤◌, ◌^◌, ◌==◌, ◌++◌, ℕ, false, List, [], ◌∷◌, None, IfOk, OnOk, map, take, drop, length, string_bytes};
 ghost use Rattle.std.specs.List.{filter_map, slice_split, join_with_byte};
 ghost use Rattle.item_text.specs.Components.{placed};
 ghost use Rattle.item_text.specs.Edits as spec;
@@ -8,11 +8,12 @@ ghost use Rattle.item_text.specs.Kinds.{kind_seen};
 ghost use Rattle.item_text.specs.Lines.{logical_lines};
 ghost use Rattle.item_text.specs.Places.{place_seen};
 ghost use Rattle.item_text.specs.Refusals.{fault_of};
-ghost use Rattle.item_text.specs.Seen.{line_seen};
+ghost use Rattle.item_text.specs.Seen.{left_behind, size_of};
 
-use crate::lines::{Line, begins_blank, physical_lines, unfolded, without_mark};
+use crate::lines::{Lines, begins_blank, without_mark};
 use crate::stack::Stack;
 use crate::words::{LineKind, kind_of, trimmed};
+use bumpalo::Bump;
 use std::alloc::{AllocError, Global};
 
 /// What a line is to the components that hold a UID.
@@ -48,15 +49,16 @@ fn role_of<'a>(stack: &Stack<'a>, kind: LineKind<'a>) -> Role
     }
 }
 
-/// The role of each line of an item.
-fn roles<'a, 'b>(alloc: Global, lines: &'a [Line<'b>]) -> Result<Vec<Role>, AllocError>
-    requires { filter_map fault_of (placed (map line_seen lines.now)) ≡ [] }
-    ensures { IfOk result (λ v. v.items ≡ map spec.role_of (placed (map line_seen lines.now))) }
+/// The role of each line that is left of an item.
+fn roles<'a>(alloc: Global, bump: &'a Bump, lines: &mut Lines<'a>) -> Result<Vec<Role>, AllocError>
+    requires size { size_of lines.old < 2 ^ 32 }
+    requires fine { filter_map fault_of (placed (left_behind None lines.old)) ≡ [] }
+    ensures { IfOk result (λ v. v.items ≡ map spec.role_of (placed (left_behind None lines.old))) }
 {
     let mut stack = Stack::new(alloc);
     let mut all = Vec::new(alloc);
-    for line in lines {
-        let kind = kind_of(trimmed(line.text.as_str()));
+    while let Some(line) = lines.next(alloc, bump)? {
+        let kind = kind_of(trimmed(line.text));
         all.push(role_of(&stack, kind))?;
         stack.go(kind)?;
     }
@@ -115,16 +117,6 @@ fn changes(alloc: Global, roles: &[Role]) -> Result<Vec<Change>, AllocError>
         rest = more;
     }
     Ok(all)
-}
-
-/// What becomes of each line of an item.
-#[tactic(auto, unfolding(crate::specs::Edits::changes_of))]
-fn changes_of(alloc: Global, lines: &[Line<'_>]) -> Result<Vec<Change>, AllocError>
-    requires { filter_map fault_of (placed (map line_seen lines.now)) ≡ [] }
-    ensures { IfOk result (λ v. v.items ≡ spec.changes_of (placed (map line_seen lines.now))) }
-{
-    let roles = roles(alloc, lines)?;
-    changes(alloc, &roles)
 }
 
 /// What stands between the line feeds of a text.
@@ -240,14 +232,16 @@ fn joined(alloc: Global, mark: &str, parts: &[&str]) -> Result<String, AllocErro
 }
 
 /// What becomes of the lines of an item's text.
-fn changes_of_text(alloc: Global, text: &str) -> Result<Vec<Change>, AllocError>
+#[tactic(auto, unfolding(crate::specs::Edits::changes_of))]
+fn changes_of(alloc: Global, text: &str) -> Result<Vec<Change>, AllocError>
     requires short { length text.now ≤ 8_388_608 }
     requires fine { filter_map fault_of (placed (logical_lines text.now)) ≡ [] }
     ensures { IfOk result (λ v. v.items ≡ spec.changes_of (placed (logical_lines text.now))) }
 {
-    let physical = physical_lines(alloc, without_mark(text))?;
-    let lines = unfolded(alloc, &physical)?;
-    changes_of(alloc, &lines)
+    let bump = Bump::new(alloc);
+    let mut lines = Lines::of(without_mark(text));
+    let roles = roles(alloc, &bump, &mut lines)?;
+    changes(alloc, &roles)
 }
 
 /// The text of an item with another UID.
@@ -257,7 +251,7 @@ pub(crate) fn with_uid(alloc: Global, text: &str, uid: &str) -> Result<String, A
     requires fine { filter_map fault_of (placed (logical_lines text.now)) ≡ [] }
     ensures { IfOk result (λ edited. string_bytes edited ≡ spec.with_uid text.now uid.now) }
 {
-    let changes = changes_of_text(alloc, text)?;
+    let changes = changes_of(alloc, text)?;
     let parts = split_feeds(alloc, without_mark(text))?;
     let line = uid_line(alloc, uid)?;
     let edited = changed_parts(alloc, line.as_str(), &changes, &parts)?;

@@ -1,6 +1,6 @@
 //! Items: read from their text.
 
-ghost use Rattle.std.specs.Prelude.{◌≡◌, ◌⊎◌, ◌≤◌, Ok, Err, Some, None, IfOk, IfErr, List, [], true, map, is_some, length};
+ghost use Rattle.std.specs.Prelude.{◌≡◌, ◌⊎◌, ◌<◌, ◌≤◌, ◌^◌, Ok, Err, Some, None, IfOk, IfErr, [], true, map, is_some, length};
 ghost use Rattle.std.specs.Option.{option_map, unwrap_or};
 ghost use Rattle.hex.specs.Hex.{encode_lower};
 ghost use Rattle.item_text.specs.Components.{placed};
@@ -8,16 +8,17 @@ ghost use Rattle.item_text.specs.Edits.{with_uid, item_with_uid};
 ghost use Rattle.item_text.specs.Plain.{is_plain};
 ghost use Rattle.item_text.specs.Refusals as refused;
 ghost use Rattle.item_text.specs.Items.{item_of, read_item, item_of_text, uid_among};
-ghost use Rattle.item_text.specs.Seen.{line_seen};
+ghost use Rattle.item_text.specs.Seen.{left_behind, count_of, size_of};
 ghost use Rattle.item_text.specs.Walks.{children_seen};
 ghost use Rattle.item_text.specs.Read.{IsTold};
 
 use crate::children::{Children, calendar_fault};
 use crate::edit::with_uid;
 use crate::fp::{Fp, fp_hex};
-use crate::lines::{Line, physical_lines, unfolded, without_mark};
+use crate::lines::{Lines, without_mark};
 use crate::normal::fingerprint;
 use crate::walk::{Walk, go_over};
+use bumpalo::Bump;
 use std::alloc::{AllocError, Global};
 use std::marker::Model;
 use thiserror::Error;
@@ -109,16 +110,17 @@ fn ident_of(alloc: Global, uid: Option<&str>, version: Fp) -> Result<Text, Alloc
     }
 }
 
-/// What lines tell, of a text of so many physical lines.
-fn told_by(alloc: Global, count: u32, lines: &[Line<'_>]) -> Result<Told, ItemError>
-    ensures ok { IfOk result (λ told. (refused.refusal_of count (map line_seen lines.now) ≡ None) × IsTold told (placed (map line_seen lines.now))) }
-    ensures err { IfErr result (λ e. (e ≡ ItemError.NoMemory) ⊎ (refused.refusal_of count (map line_seen lines.now) ≡ Some e)) }
+/// What the lines of a text tell.
+fn told_by<'a>(alloc: Global, bump: &'a Bump, mut lines: Lines<'a>) -> Result<Told, ItemError>
+    requires { size_of lines < 2 ^ 32 }
+    ensures ok { IfOk result (λ told. (refused.refusal_of (count_of lines.entry) (left_behind None lines.entry) ≡ None) × IsTold told (placed (left_behind None lines.entry))) }
+    ensures err { IfErr result (λ e. (e ≡ ItemError.NoMemory) ⊎ (refused.refusal_of (count_of lines.entry) (left_behind None lines.entry) ≡ Some e)) }
 {
-    let walk = match go_over(alloc, lines) {
+    let walk = match go_over(alloc, bump, &mut lines) {
         Ok(walk) => walk,
         Err(error) => return Err(error),
     };
-    if let Some(error) = walk.stack.end_fault(count) {
+    if let Some(error) = walk.stack.end_fault(lines.count()) {
         return Err(error);
     }
     let Walk {
@@ -126,16 +128,14 @@ fn told_by(alloc: Global, count: u32, lines: &[Line<'_>]) -> Result<Told, ItemEr
         uid,
         calendar,
         children,
-        kept,
+        mut kept,
     } = walk;
     match children_fault(calendar, children) {
         Ok(None) => {}
         Ok(Some(error)) => return Err(error),
         Err(_) => return Err(ItemError::NoMemory),
     }
-    let Ok(version) = fingerprint(alloc, &kept) else {
-        return Err(ItemError::NoMemory);
-    };
+    let version = fingerprint(&mut kept);
     let Ok(ident) = ident_of(alloc, uid, version) else {
         return Err(ItemError::NoMemory);
     };
@@ -152,14 +152,8 @@ fn told_by_text(alloc: Global, text: &str) -> Result<Told, ItemError>
     ensures ok { IfOk result (λ told. item_of_text text.now ≡ Ok (record { text = text.now; ident = told.ident; has_uid = told.has_uid; version = told.version.0 })) }
     ensures err { IfErr result (λ e. (e ≡ ItemError.NoMemory) ⊎ (item_of_text text.now ≡ Err e)) }
 {
-    let Ok(physical) = physical_lines(alloc, without_mark(text)) else {
-        return Err(ItemError::NoMemory);
-    };
-    let Ok(lines) = unfolded(alloc, &physical) else {
-        return Err(ItemError::NoMemory);
-    };
-    let count = physical.len() as u32;
-    match told_by(alloc, count, &lines) {
+    let bump = Bump::new(alloc);
+    match told_by(alloc, &bump, Lines::of(without_mark(text))) {
         Ok(told) => Ok(told),
         Err(error) => Err(error),
     }

@@ -1,58 +1,37 @@
-//! The logical lines of a text.
+//! The logical lines of a text, one after another.
 
-ghost use Rattle.std.specs.Prelude.{◌≡◌, ℕ, ◌++◌, ◌-◌, ◌<◌, ◌^◌, true, false, IfOk, List, ◌∷◌, map, drop, length};
-ghost use Rattle.std.specs.Option.{MatchOption, option_map};
-ghost use Rattle.std.specs.Str.Lines.{lines};
+ghost use Rattle.std.specs.Prelude.{◌≡◌, ◌==◌, ◌<◌, ◌≤◌, ◌^◌, IfOk, [], ◌∷◌, ◌++◌, true, None, Some, drop, length};
+ghost use Rattle.std.specs.List.{position_or_len, before_first, after_first};
+ghost use Rattle.std.specs.Option.{MatchOption};
+ghost use Rattle.std.specs.Str.Lines.{lines, strip_carriage_return};
 ghost use Rattle.item_text.specs.Lines as spec;
-ghost use Rattle.item_text.specs.Seen.{bytes_of, line_seen, behind};
+ghost use Rattle.item_text.specs.Seen.{line_seen, left_behind, count_of, size_of};
 
+use bumpalo::Bump;
 use std::alloc::{AllocError, Global};
 
-/// The text of a line: a part of the item's text, or text of its own where the line was folded or is written anew.
-#[derive(Drop)]
-pub(crate) enum LineText<'a> {
-    Lent(&'a str),
-    Owned(String),
-}
-
-impl<'a> LineText<'a> {
-    pub(crate) fn as_str(&self) -> &str
-        ensures { result.now ≡ bytes_of self.now }
-    {
-        match self {
-            LineText::Lent(text) => text,
-            LineText::Owned(text) => text.as_str(),
-        }
-    }
-
-    /// The text with more behind it.
-    fn and(self, alloc: Global, more: &str) -> Result<LineText<'a>, AllocError>
-        ensures { IfOk result (λ t. bytes_of t ≡ bytes_of self.entry ++ more.now) }
-    {
-        let mut text = match self {
-            LineText::Lent(start) => String::from_str(alloc, start)?,
-            LineText::Owned(start) => start,
-        };
-        text.push_str(more)?;
-        Ok(LineText::Owned(text))
-    }
-}
-
 /// A logical line, with the number of its first physical line.
-#[derive(Drop)]
+#[derive(Clone, Copy)]
 pub(crate) struct Line<'a> {
     pub(crate) number: u32,
-    pub(crate) text: LineText<'a>,
+    pub(crate) text: &'a str,
 }
 
-/// What a physical line adds to the line before it, where it continues that line.
-fn continuation(line: &str) -> Option<&str>
-    ensures { MatchOption result (spec.continues line.now ≡ false) (λ x. (spec.continues line.now ≡ true) × (x.now ≡ drop 1 line.now)) }
+/// What is left of a text, and how many physical lines stand before it.
+#[derive(Clone, Copy)]
+pub(crate) struct Lines<'a> {
+    rest: &'a str,
+    passed: u32,
+}
+
+/// A text without the byte order mark at its front.
+pub(crate) fn without_mark(text: &str) -> &str
+    ensures { result.now ≡ spec.without_mark text.now }
 {
-    if begins_blank(line.as_bytes()) {
-        Some(&line[1..])
+    if text.starts_with("\u{feff}") {
+        &text[3..]
     } else {
-        None
+        text
     }
 }
 
@@ -67,79 +46,143 @@ pub(crate) fn begins_blank(line: &[u8]) -> bool
     *first == b' ' || *first == b'\t'
 }
 
-/// Puts a physical line to the line that was begun, or ends that line and begins another: gives the line that is begun now.
-fn next_begun<'a>(
-    alloc: Global,
-    all: &mut Vec<Line<'a>>,
-    begun: Option<Line<'a>>,
-    number: u32,
-    next: &'a str,
-) -> Result<Line<'a>, AllocError>
-    requires { 0 < number }
-    ensures { IfOk result (λ line. (rest : List (List ℕ)) → map line_seen all.new.items ++ behind (Some (line_seen line)) number rest ≡ map line_seen all.old.items ++ behind (option_map line_seen begun.entry) (number - 1) (next.now ∷ rest)) }
+fn without_return(line: &str) -> &str
+    ensures { result.now ≡ strip_carriage_return line.now }
 {
-    let Some(line) = begun else {
-        return Ok(Line {
-            number,
-            text: LineText::Lent(next),
-        });
-    };
-    match continuation(next) {
-        Some(more) => {
-            let Line {
-                number: first,
-                text,
-            } = line;
-            Ok(Line {
-                number: first,
-                text: text.and(alloc, more)?,
-            })
-        }
+    match line.strip_suffix('\r') {
+        Some(rest) => rest,
+        None => line,
+    }
+}
+
+/// What stands before and behind the first line feed.
+fn split_feed(text: &str) -> Option<(&str, &str)>
+    ensures { MatchOption result (position_or_len (λ b. b == 10) text.now ≡ length text.now) (λ x. (position_or_len (λ b. b == 10) text.now < length text.now) × (x.0.now ≡ before_first (λ b. b == 10) text.now) × (x.1.now ≡ after_first (λ b. b == 10) text.now)) }
+{
+    text.split_once('\n')
+}
+
+/// The first physical line of a text, and what stands behind it.
+fn split_line(text: &str) -> Option<(&str, &str)>
+    ensures { MatchOption result (text.now ≡ []) (λ x. (lines text.now ≡ x.0.now ∷ lines x.1.now) × (length x.1.now < length text.now)) }
+{
+    match split_feed(text) {
+        Some((line, rest)) => Some((without_return(line), rest)),
         None => {
-            all.push(line)?;
-            Ok(Line {
-                number,
-                text: LineText::Lent(next),
-            })
+            if text.is_empty() {
+                None
+            } else {
+                Some((text, ""))
+            }
         }
     }
 }
 
-/// The logical lines that physical lines make.
-pub(crate) fn unfolded<'a>(alloc: Global, physical: &[&'a str]) -> Result<Vec<Line<'a>>, AllocError>
-    requires { length physical.now < 2 ^ 32 }
-    ensures { IfOk result (λ v. map line_seen v.items ≡ spec.unfolded (map (λ x. x.now) physical.now)) }
+/// What a physical line adds to the line that it continues.
+fn behind_blank(line: &str) -> &str
+    requires { spec.continues line.now ≡ true }
+    ensures { result.now ≡ drop 1 line.now }
 {
-    let mut all = Vec::new(alloc);
-    let mut begun: Option<Line<'a>> = None;
-    let mut number: u32 = 0;
-    for next in physical {
-        number += 1;
-        begun = Some(next_begun(alloc, &mut all, begun, number, next)?);
-    }
-    match begun {
-        Some(line) => {
-            all.push(line)?;
-            Ok(all)
+    &line[1..]
+}
+
+impl<'a> Lines<'a> {
+    /// The lines of a text without a byte order mark.
+    pub(crate) fn of(text: &'a str) -> Lines<'a>
+        ensures left { left_behind None result ≡ spec.unfolded (lines text.now) }
+        ensures count { count_of result ≡ length (lines text.now) }
+        ensures size { size_of result ≡ length text.now }
+    {
+        Lines {
+            rest: text,
+            passed: 0,
         }
-        None => Ok(all),
     }
-}
 
-/// A text without the byte order mark at its front.
-pub(crate) fn without_mark(text: &str) -> &str
-    ensures { result.now ≡ spec.without_mark text.now }
-{
-    if text.starts_with("\u{feff}") {
-        &text[3..]
-    } else {
-        text
+    /// How many physical lines the text has, where no line is left.
+    pub(crate) fn count(&self) -> u32
+        ensures { left_behind None self.now ≡ [] → result ≡ count_of self.now }
+    {
+        self.passed
     }
-}
 
-/// The physical lines of a text.
-pub(crate) fn physical_lines(alloc: Global, text: &str) -> Result<Vec<&str>, AllocError>
-    ensures { IfOk result (λ v. map (λ x. x.now) v.items ≡ lines text.now) }
-{
-    text.lines().collect(alloc)
+    /// The first physical line of the next logical line.
+    fn first(&mut self) -> Option<Line<'a>>
+        requires { size_of self.old < 2 ^ 32 }
+        ensures line { MatchOption result ((left_behind None self.old ≡ []) × (self.new ≡ self.old)) (λ line. (left_behind None self.old ≡ left_behind (Some (line_seen line)) self.new) × (length self.new.rest.now < length self.old.rest.now)) }
+        ensures count { count_of self.new ≡ count_of self.old }
+        ensures size { size_of self.new ≤ size_of self.old }
+    {
+        let Some((text, rest)) = split_line(self.rest) else {
+            return None;
+        };
+        self.rest = rest;
+        self.passed += 1;
+        Some(Line {
+            number: self.passed,
+            text,
+        })
+    }
+
+    /// What the next physical line adds to the line before it, where it continues that line.
+    fn continuation(&mut self) -> Option<&'a str>
+        requires { size_of self.old < 2 ^ 32 }
+        ensures line { (begun : spec.Line) → MatchOption result ((left_behind (Some begun) self.old ≡ begun ∷ left_behind None self.old) × (self.new ≡ self.old)) (λ more. (left_behind (Some begun) self.old ≡ left_behind (Some (record { number = begun.number; text = begun.text ++ more.now })) self.new) × (length self.new.rest.now < length self.old.rest.now)) }
+        ensures count { count_of self.new ≡ count_of self.old }
+        ensures size { size_of self.new ≤ size_of self.old }
+    {
+        if !begins_blank(self.rest.as_bytes()) {
+            return None;
+        }
+        let Some((line, rest)) = split_line(self.rest) else {
+            return None;
+        };
+        self.rest = rest;
+        self.passed += 1;
+        Some(behind_blank(line))
+    }
+
+    /// A line with all that continues it.
+    fn unfolded(
+        &mut self,
+        alloc: Global,
+        bump: &'a Bump,
+        line: Line<'a>,
+    ) -> Result<Line<'a>, AllocError>
+        requires { size_of self.old < 2 ^ 32 }
+        ensures line { IfOk result (λ whole. (left_behind (Some (line_seen line.entry)) self.old ≡ line_seen whole ∷ left_behind None self.new) × (length self.new.rest.now ≤ length self.old.rest.now)) }
+        ensures count { count_of self.new ≡ count_of self.old }
+        ensures size { size_of self.new ≤ size_of self.old }
+    {
+        let Some(more) = self.continuation() else {
+            return Ok(line);
+        };
+        let mut text = String::from_str(alloc, line.text)?;
+        text.push_str(more)?;
+        while let Some(more) = self.continuation() {
+            text.push_str(more)?;
+        }
+        Ok(Line {
+            number: line.number,
+            text: bump.try_alloc_str(text.as_str())?,
+        })
+    }
+
+    /// The next logical line. The text of a folded one stands in the arena.
+    pub(crate) fn next(
+        &mut self,
+        alloc: Global,
+        bump: &'a Bump,
+    ) -> Result<Option<Line<'a>>, AllocError>
+        requires { size_of self.old < 2 ^ 32 }
+        ensures line { IfOk result (λ next. MatchOption next (left_behind None self.old ≡ []) (λ line. left_behind None self.old ≡ line_seen line ∷ left_behind None self.new)) }
+        ensures shorter { IfOk result (λ next. MatchOption next (self.new ≡ self.old) (λ line. length self.new.rest.now < length self.old.rest.now)) }
+        ensures count { count_of self.new ≡ count_of self.old }
+        ensures size { size_of self.new ≤ size_of self.old }
+    {
+        match self.first() {
+            Some(line) => Ok(Some(self.unfolded(alloc, bump, line)?)),
+            None => Ok(None),
+        }
+    }
 }

@@ -1,16 +1,13 @@
 //! The normal form of an item, and its fingerprint.
 
-ghost use Rattle.std.specs.Prelude.{◌≡◌, IfOk, map};
+ghost use Rattle.std.specs.Prelude.{◌≡◌, map};
 ghost use Rattle.sha2.specs.Sha256.{sha256};
 ghost use Rattle.item_text.specs.Components.{upper};
 ghost use Rattle.item_text.specs.NormalForm as form;
-ghost use Rattle.item_text.specs.Seen.{bytes_of};
 
 use crate::fp::Fp;
-use crate::lines::LineText;
 use crate::words::is_word;
 use sha2::{Digest, Sha256};
-use std::alloc::{AllocError, Global};
 
 /// Whether the normal form drops the properties of a name.
 #[tactic(auto, unfolding(crate::specs::NormalForm::is_dropped))]
@@ -26,16 +23,6 @@ pub(crate) fn is_dropped(name: &str) -> bool
         || is_word(name, "UID")
         || is_word(name, "X-RADICALE-NAME")
         || is_word(name, "X-WR-CALNAME")
-}
-
-fn texts_of<'a, 'b>(alloc: Global, lines: &'a [LineText<'b>]) -> Result<Vec<&'a str>, AllocError>
-    ensures { IfOk result (λ v. map (λ x. x.now) v.items ≡ map bytes_of lines.now) }
-{
-    let mut texts = Vec::new(alloc);
-    for line in lines {
-        texts.push(line.as_str())?;
-    }
-    Ok(texts)
 }
 
 fn put_in_order(lines: &mut Vec<&str>)
@@ -58,10 +45,9 @@ fn digest_of(lines: &[&str]) -> [u8; 32]
 }
 
 /// The fingerprint of a normal form of these lines, which stand in any order.
-pub(crate) fn fingerprint(alloc: Global, lines: &[LineText<'_>]) -> Result<Fp, AllocError>
-    ensures { IfOk result (λ fp. fp.0 ≡ sha256 (form.joined (form.in_order (map bytes_of lines.now)))) }
+pub(crate) fn fingerprint(lines: &mut Vec<&str>) -> Fp
+    ensures { result.0 ≡ sha256 (form.joined (form.in_order (map (λ x. x.now) lines.old.items))) }
 {
-    let mut texts = texts_of(alloc, lines)?;
-    put_in_order(&mut texts);
-    Ok(Fp(digest_of(&texts)))
+    put_in_order(lines);
+    Fp(digest_of(lines.as_slice()))
 }

@@ -1,21 +1,22 @@
 //! The walk over the lines of a text: the first refusal, the first UID and what the normal form keeps.
 
-ghost use Rattle.std.specs.Prelude.{◌≡◌, ◌++◌, ◌⊎◌, List, [], ◌∷◌, None, Some, Err, OnOk, IfOk, IfErr, map, if◌then◌else◌};
+ghost use Rattle.std.specs.Prelude.{◌≡◌, ◌<◌, ◌^◌, ◌++◌, ◌⊎◌, List, [], ◌∷◌, None, Some, Err, OnOk, IfOk, IfErr, map, if◌then◌else◌};
 ghost use Rattle.std.specs.Option.{option_map};
 ghost use Rattle.item_text.specs.Lines as spec;
 ghost use Rattle.item_text.specs.Components.{upper, kind_of};
 ghost use Rattle.item_text.specs.NormalForm as form;
 ghost use Rattle.item_text.specs.Refusals as refused;
 ghost use Rattle.item_text.specs.Kinds.{kind_seen};
-ghost use Rattle.item_text.specs.Seen.{bytes_of, line_seen};
+ghost use Rattle.item_text.specs.Seen.{line_seen, left_behind, count_of, size_of};
 ghost use Rattle.item_text.specs.Places.{place_seen, names_of, IsCounted};
 ghost use Rattle.item_text.specs.Walks.{found_from, found_in};
 
 use crate::children::{Children, first};
 use crate::item::ItemError;
-use crate::lines::{Line, LineText};
+use crate::lines::{Line, Lines};
 use crate::stack::Stack;
 use crate::words::{LineKind, kind_of, trimmed};
+use bumpalo::Bump;
 use std::alloc::{AllocError, Global};
 
 /// What the lines so far gave.
@@ -28,46 +29,52 @@ pub(crate) struct Walk<'a> {
     pub(crate) calendar: Option<u32>,
     pub(crate) children: Children<'a>,
     /// The lines that the normal form keeps.
-    pub(crate) kept: Vec<LineText<'a>>,
+    pub(crate) kept: Vec<&'a str>,
 }
 
 /// A head and a name in upper case.
-fn headed<'a>(alloc: Global, head: &str, name: &str) -> Result<LineText<'a>, AllocError>
-    ensures { IfOk result (λ t. bytes_of t ≡ upper (head.now ++ name.now)) }
+fn headed<'a>(alloc: Global, bump: &'a Bump, head: &str, name: &str) -> Result<&'a str, AllocError>
+    ensures { IfOk result (λ t. t.now ≡ upper (head.now ++ name.now)) }
 {
     let mut text = String::from_str(alloc, head)?;
     text.push_str(name)?;
     text.make_ascii_uppercase();
-    Ok(LineText::Owned(text))
+    bump.try_alloc_str(text.as_str())
 }
 
 /// A trimmed line of this kind as the normal form has it.
 #[tactic(auto, unfolding(crate::specs::NormalForm::written_as))]
-fn written<'a>(alloc: Global, text: &'a str, kind: LineKind<'a>) -> Result<LineText<'a>, AllocError>
-    ensures { IfOk result (λ t. bytes_of t ≡ form.written_as text.now (kind_seen kind.entry)) }
+fn written<'a>(
+    alloc: Global,
+    bump: &'a Bump,
+    text: &'a str,
+    kind: LineKind<'a>,
+) -> Result<&'a str, AllocError>
+    ensures { IfOk result (λ t. t.now ≡ form.written_as text.now (kind_seen kind.entry)) }
 {
     match kind {
-        LineKind::Opens(name) => headed(alloc, "BEGIN:", name),
-        LineKind::Closes(name) => headed(alloc, "END:", name),
-        LineKind::Property(_, _) => Ok(LineText::Lent(text)),
-        LineKind::Blank => Ok(LineText::Lent(text)),
+        LineKind::Opens(name) => headed(alloc, bump, "BEGIN:", name),
+        LineKind::Closes(name) => headed(alloc, bump, "END:", name),
+        LineKind::Property(_, _) => Ok(text),
+        LineKind::Blank => Ok(text),
     }
 }
 
 /// Keeps a line, where it stays in the normal form.
 fn keep<'a>(
     alloc: Global,
-    kept: &mut Vec<LineText<'a>>,
+    bump: &'a Bump,
+    kept: &mut Vec<&'a str>,
     stays: bool,
     text: &'a str,
     kind: LineKind<'a>,
 ) -> Result<(), AllocError>
-    ensures { OnOk result (map bytes_of kept.new.items ≡ map bytes_of kept.old.items ++ (if stays then form.written_as text.now (kind_seen kind.entry) ∷ [] else [])) }
+    ensures { OnOk result (map (λ x. x.now) kept.new.items ≡ map (λ x. x.now) kept.old.items ++ (if stays then form.written_as text.now (kind_seen kind.entry) ∷ [] else [])) }
 {
     if !stays {
         return Ok(());
     }
-    let line = written(alloc, text, kind)?;
+    let line = written(alloc, bump, text, kind)?;
     kept.push(line)?;
     Ok(())
 }
@@ -97,12 +104,13 @@ impl<'a> Walk<'a> {
     }
 
     /// Goes over a line.
-    fn go(&mut self, alloc: Global, number: u32, text: &'a str) -> Result<(), ItemError>
+    fn go(&mut self, alloc: Global, bump: &'a Bump, line: Line<'a>) -> Result<(), ItemError>
         requires { IsCounted self.old.stack }
         ensures counted { OnOk result (IsCounted self.new.stack) }
-        ensures goes { OnOk result ((rest : List spec.Line) → found_from self.new rest ≡ found_from self.old (record { number = number; text = text.now } ∷ rest)) }
-        ensures err { IfErr result (λ e. (e ≡ ItemError.NoMemory) ⊎ (refused.fault_at number (place_seen self.old.stack) (kind_of (spec.trimmed text.now)) ≡ Some e)) }
+        ensures goes { OnOk result ((rest : List spec.Line) → found_from self.new rest ≡ found_from self.old (line_seen line.entry ∷ rest)) }
+        ensures err { IfErr result (λ e. (e ≡ ItemError.NoMemory) ⊎ (refused.fault_at line.entry.number (place_seen self.old.stack) (kind_of (spec.trimmed line.entry.text.now)) ≡ Some e)) }
     {
+        let Line { number, text } = line;
         let text = trimmed(text);
         let kind = kind_of(text);
         let uid = self.stack.uid(kind);
@@ -110,7 +118,7 @@ impl<'a> Walk<'a> {
             return Err(error);
         }
         let stays = self.stack.keeps(kind);
-        let Ok(()) = keep(alloc, &mut self.kept, stays, text, kind) else {
+        let Ok(()) = keep(alloc, bump, &mut self.kept, stays, text, kind) else {
             return Err(ItemError::NoMemory);
         };
         let begins = self.stack.begins_child(kind);
@@ -126,16 +134,28 @@ impl<'a> Walk<'a> {
     }
 }
 
-/// Goes over all lines of a text.
-pub(crate) fn go_over<'a, 'b>(alloc: Global, lines: &'a [Line<'b>]) -> Result<Walk<'a>, ItemError>
-    ensures ok { IfOk result (λ w. found_from w [] ≡ found_in (map line_seen lines.now)) }
-    ensures err { IfErr result (λ e. (e ≡ ItemError.NoMemory) ⊎ (refused.first_of (found_in (map line_seen lines.now)).faults ≡ Some e)) }
+/// Goes over all lines that are left.
+pub(crate) fn go_over<'a>(
+    alloc: Global,
+    bump: &'a Bump,
+    lines: &mut Lines<'a>,
+) -> Result<Walk<'a>, ItemError>
+    requires { size_of lines.old < 2 ^ 32 }
+    ensures ok { IfOk result (λ w. found_from w [] ≡ found_in (left_behind None lines.old)) }
+    ensures err { IfErr result (λ e. (e ≡ ItemError.NoMemory) ⊎ (refused.first_of (found_in (left_behind None lines.old)).faults ≡ Some e)) }
+    ensures all { IfOk result (λ w. left_behind None lines.new ≡ []) }
+    ensures count { count_of lines.new ≡ count_of lines.old }
 {
     let mut walk = Walk::new(alloc);
-    for line in lines {
-        if let Err(error) = walk.go(alloc, line.number, line.text.as_str()) {
+    loop {
+        let Ok(next) = lines.next(alloc, bump) else {
+            return Err(ItemError::NoMemory);
+        };
+        let Some(line) = next else {
+            return Ok(walk);
+        };
+        if let Err(error) = walk.go(alloc, bump, line) {
             return Err(error);
         }
     }
-    Ok(walk)
 }

@@ -1,5 +1,5 @@
 -- What a store knows of its side stays true until an edit from outside comes.
-use Rattle.std.proofs.Common.{◌≡◌, ◌⊎◌, inl, inr, ℕ, Bool, true, false, not, cond, List, [], ◌∷◌, Option, Some, None, is_none, map, Result, Ok, Err, ◌&&◌, ◌||◌, refl, sym, ◌∙◌, subst, ap}
+use Rattle.std.proofs.Common.{◌≡◌, ◌⊎◌, inl, inr, ℕ, Bool, true, false, cond, List, [], ◌∷◌, Option, Some, None, is_none, map, Result, Ok, Err, ◌&&◌, ◌||◌, refl, sym, ◌∙◌, subst, ap}
 use Rattle.std.specs.Ordering.{nat_cmp}
 use Rattle.std.specs.Cmp.Lexicographic.{slice_cmp}
 use Rattle.std.specs.FinMap as fin
@@ -21,7 +21,7 @@ use Rattle.store_model.specs.declared.store.Put.{Put}
 use Rattle.store_model.specs.declared.store.StoreError.{StoreError}
 use Rattle.store_model.specs.declared.store.StoreError.TheVariants.{Fault, Moved, TooLong, TooMany, NotThere, Vanished, BadItem, NoMemory}
 use Rattle.store_model.specs.Sides.{Content, SideState, put_held, happens, IsTrueEvent, Evolves, IsOutside, IsNoWrite, Since, Sometime, WasEdited}
-use Rattle.store_model.specs.Waits.{Change, fits, fits_at, new_at, Acts}
+use Rattle.store_model.specs.Waits.{Change, fits, new_at, Acts}
 use Rattle.store_model.specs.StoreCalls.{entry_of, IsListed, TakenByList, TakenByPut, IsKnown, KnownAfterPut, PutNewAnswer}
 use Rattle.store_model.proofs.Moments.{Evolves-refl, Evolves-trans, Evolves-one, Since-from_evolves}
 use Rattle.store_model.proofs.Lacks.{Evolves-first, get-put_held}
