@@ -8,7 +8,10 @@ pub mod Feeding
 pub mod HexDigits
 pub mod Lent
 pub mod LineKinds
+pub mod LineRoles
+pub mod Made
 pub mod Marks
+pub mod NoHolder
 pub mod Order
 pub mod Parts
 pub mod Physical

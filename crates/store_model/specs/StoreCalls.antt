@@ -165,11 +165,12 @@ abbrev pub DropAnswer : Bool → Change → SideState → List Change → SideSt
 DropAnswer waits c s w t w' (Ok done) = Sent waits c None s w t w'
 DropAnswer waits c s w t w' (Err e) = Unsent c s w t w' e
 
--- a flush lets all that waits act, or nothing of it
+-- A flush lets all that waits act, or nothing of it. Where nothing waits it answers Ok, but for a fault.
 abbrev pub FlushAnswer : SideState → List Change → SideState → List Change → Result (Unit {0}) StoreError → Type 0
 FlushAnswer s w t w' (Ok done) = Flushes w s t × (w' ≡ [])
-FlushAnswer s w t w' (Err Moved) = Evolves IsOutside s t × (w' ≡ w)
-FlushAnswer s w t w' (Err e) = Evolves IsOutside s t ⊎ Flushes w s t
+FlushAnswer s w t w' (Err Moved) = Evolves IsOutside s t × (w' ≡ w) × (w ≡ [] → ⊥)
+FlushAnswer s w t w' (Err Fault) = Evolves IsOutside s t ⊎ Flushes w s t
+FlushAnswer s w t w' (Err e) = (Evolves IsOutside s t ⊎ Flushes w s t) × (w ≡ [] → ⊥)
 
 -- a store goes on waiting or not waiting, and stays listed
 abbrev pub Keeps : {X : Type 0} → (X → Bool) → (X → Bool) → X → X → Type 0
