@@ -1,5 +1,7 @@
 //! A folder in memory, with faults and edits by a plan.
 
+mod looking;
+
 ghost use Rattle.std.specs.Prelude.{◌≡◌, ◌≤◌, true, false, IfOk, OnOk, vec_len, min, ◌+◌, ◌-◌, ◌^◌};
 ghost use Rattle.outside.specs.Causes.{Rose};
 ghost use Rattle.outside.specs.Shelf.{state_of};

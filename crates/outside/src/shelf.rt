@@ -50,6 +50,7 @@ fn copy_text(alloc: Global, text: &str) -> Result<Text, NoMemory>
 
 impl Shelf {
     ghost use Rattle.outside.specs.Files.{happens, Evolves, IsOutside};
+    ghost use Rattle.outside.specs.FileMap.{files_of};
     ghost use Rattle.outside.specs.Shelf.{state_of, is_started};
     ghost use Rattle.outside.specs.FolderCalls.{meets, has_etag, wrote, edited, made, after_edit, NamesAnswer, FoldersAnswer, ReadAnswer, ReplaceAnswer, RemoveAnswer, MakeAnswer};
 
@@ -66,6 +67,30 @@ impl Shelf {
             folders,
             trail: Vec::new(alloc),
         }
+    }
+
+    pub fn is_there(&self) -> bool
+        ensures { result ≡ (state_of self.now).is_there }
+    {
+        self.there
+    }
+
+    pub fn files(&self) -> &FileMap
+        ensures { files_of result.now ≡ (state_of self.now).files }
+    {
+        &self.files
+    }
+
+    pub fn subfolders(&self) -> &[Text]
+        ensures { result.now ≡ (state_of self.now).folders }
+    {
+        self.folders.as_slice()
+    }
+
+    pub fn trail(&self) -> &[FolderEvent]
+        ensures { result.now ≡ (state_of self.now).trail }
+    {
+        self.trail.as_slice()
     }
 
     fn kept(&self, name: &str, new: Option<&[u8]>) -> Result<Kept, NoMemory>

@@ -14,5 +14,3 @@ pub use keeper::{Keeper, KeeperError};
 pub use name::status_name;
 pub use row::Row;
 
-#[cfg(test)]
-mod tests;
