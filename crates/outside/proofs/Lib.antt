@@ -1,3 +1,4 @@
+pub mod EtagLemmas
 pub mod FileMapLemmas
 pub mod FolderLemmas
 pub mod KnownBytes

@@ -25,7 +25,7 @@ pub struct StdSink<O: Write + Drop> {
 }
 
 /// One read. A read that a signal cut short is made again.
-fn read_once<I: Read>(stream: &mut I, piece: &mut [u8]) -> io::Result<usize>
+pub fn read_once<I: Read>(stream: &mut I, piece: &mut [u8]) -> io::Result<usize>
     ensures fits { IfOk result (λ n. n ≤ length piece.old) }
     ensures bytes { ReadConsumes (I.remaining stream.old) (I.remaining stream.new) result piece.new }
 {
