@@ -1,5 +1,6 @@
 -- Steps of an edit: one line more.
-use Rattle.std.proofs.Common.{◌≡◌, ◌≤◌, ◌<◌, ◌+◌, ℕ, suc, get_or, append-nil, append_assoc, ◌-◌, subst, Bool, true, false, cond, List, [], ◌∷◌, ◌++◌, map, length, take, drop, refl, sym, ◌∙◌, ap, Bor, arith}
+use Rattle.std.proofs.Common.{◌≡◌, ◌≤◌, ◌<◌, ◌+◌, ℕ, suc, get_or, append-nil, append_assoc, ◌-◌, subst, Bool, true, false, cond, List, [], ◌∷◌, ◌++◌, map, length, take, drop, refl, sym, ◌∙◌, ap, Bor, arith, ◌==◌}
+use Rattle.std.proofs.lemmas.Bool.Decides.{nat_tests}
 use Rattle.std.proofs.lemmas.List.{take-map, drop-map, drop-drop, drop_more, take_rest}
 use Rattle.std.specs.List.{join_with_byte, join_by, flat_map, onto_first}
 use Rattle.item_text.specs.Lines.{continues}
@@ -135,3 +136,10 @@ pub line_behind : (parts : List (Bor (List ℕ))) (start count : ℕ)
     → (part : List ℕ) → by_line (part ∷ lent (drop start parts)) ≡ (part ∷ take count (lent (drop start parts))) ∷ by_line (drop count (lent (drop start parts)))
 line_behind parts start count h part =
     subst (λ (rest : List (Bor (List ℕ))). by_line (part ∷ lent rest) ≡ (part ∷ take count (lent rest)) ∷ by_line (drop count (lent rest))) (take_rest parts start) (h part)
+
+pub no_mark : (mark text : List ℕ) → (length mark == 0) ≡ true → text ≡ mark ++ text
+no_mark [] text h = refl
+no_mark (b ∷ bs) text h = absurd (none (length bs) h)
+  where
+    none : (n : ℕ) → (suc n == 0) ≡ true → ⊥
+    none n h = grind (arith, nat_tests, h)

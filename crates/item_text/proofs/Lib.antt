@@ -11,6 +11,7 @@ pub mod LineKinds
 pub mod LineRoles
 pub mod Made
 pub mod Marks
+pub mod Neighbours
 pub mod NoHolder
 pub mod Order
 pub mod Parts

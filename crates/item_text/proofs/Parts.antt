@@ -26,7 +26,7 @@ goes_on [] = false
 goes_on (line ∷ rest) = continues line
 
 -- a physical line before the texts of the lines behind it, the first of which continues it
-abbrev onto_text : List ℕ → List (List ℕ) → List (List ℕ)
+abbrev pub onto_text : List ℕ → List (List ℕ) → List (List ℕ)
 onto_text line [] = line ∷ []
 onto_text line (text ∷ texts) = (line ++ drop 1 text) ∷ texts
 
@@ -47,7 +47,7 @@ begin_by true x y more ls ts h k = cc
 begin_by false x y more ls ts h k = ap (λ (t : List ℕ). t ∷ (y ++ more) ∷ map text_of ls) (append-nil x) ∙ ap (λ (us : List (List ℕ)). x ∷ (y ++ more) ∷ us) k
 
 -- a line before lines that don't continue it
-texts_begin : (line : List ℕ) (rest : List (List ℕ)) → goes_on rest ≡ false → texts_of (line ∷ rest) ≡ line ∷ texts_of rest
+pub texts_begin : (line : List ℕ) (rest : List (List ℕ)) → goes_on rest ≡ false → texts_of (line ∷ rest) ≡ line ∷ texts_of rest
 unfolding texts_of unfolded lines_from continuation
 texts_begin line [] h = ap (λ (t : List ℕ). t ∷ []) (append-nil line)
 texts_begin line (next ∷ rest) h = begin_by (continues next) line next (continuation rest) (lines_from 3 rest) (map text_of (lines_from 2 rest)) h (numbered 3 2 rest)
@@ -58,7 +58,7 @@ continue_by true x y more all ls ts h k = ap (λ (us : List (List ℕ)). (x ++ (
 continue_by false x y more all ls ts h k = cc
 
 -- a line before lines of which the first continues it
-texts_continue : (line : List ℕ) (rest : List (List ℕ)) → goes_on rest ≡ true → texts_of (line ∷ rest) ≡ onto_text line (texts_of rest)
+pub texts_continue : (line : List ℕ) (rest : List (List ℕ)) → goes_on rest ≡ true → texts_of (line ∷ rest) ≡ onto_text line (texts_of rest)
 unfolding texts_of unfolded lines_from continuation continues
 texts_continue line [] h = cc
 texts_continue line ([] ∷ rest) h = cc
@@ -112,7 +112,7 @@ begun_by true part [] = ([], [], refl)
 begun_by true part (group ∷ others) = (group, others, refl)
 begun_by false part groups = ([], groups, refl)
 
-by_line_begun : (part : List ℕ) (rest : List (List ℕ)) → (group : List (List ℕ)) × (others : List (List (List ℕ))) × (by_line (part ∷ rest) ≡ (part ∷ group) ∷ others)
+pub by_line_begun : (part : List ℕ) (rest : List (List ℕ)) → (group : List (List ℕ)) × (others : List (List (List ℕ))) × (by_line (part ∷ rest) ≡ (part ∷ group) ∷ others)
 unfolding by_line
 by_line_begun part [] = ([], [], refl)
 by_line_begun part (next ∷ rest) = begun_by (continues next) part (by_line (next ∷ rest))
@@ -392,7 +392,7 @@ as_many_changes seeking (Opener ∷ rest) = ap suc (as_many_changes (gives_uid r
 as_many_changes seeking (Giver ∷ rest) = ap suc (as_many_changes false rest)
 as_many_changes seeking (Other ∷ rest) = ap suc (as_many_changes seeking rest)
 
-as_many_placed : (place : Place) (all : List Line) → length (placed_from place all) ≡ length all
+pub as_many_placed : (place : Place) (all : List Line) → length (placed_from place all) ≡ length all
 unfolding placed_from
 as_many_placed place [] = refl
 as_many_placed place (line ∷ rest) = ap suc (as_many_placed (next_place place (kind_of (trimmed line.text))) rest)

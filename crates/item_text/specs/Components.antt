@@ -1,9 +1,13 @@
 -- Components: what each logical line of a text is, and in which components it stands.
-use Rattle.std.specs.Prelude.{ℕ, ◌==◌, Bool, false, ◌&&◌, ◌||◌, not, if◌then◌else◌, List, [], ◌∷◌, length, take, drop, map, codes, Option, Some, None, nat_lt}
+use Rattle.std.specs.Prelude.{ℕ, ◌==◌, Bool, false, ◌&&◌, ◌||◌, not, if◌then◌else◌, List, [], ◌∷◌, length, take, drop, map, codes, Option, Some, None, nat_le, nat_lt}
 use Rattle.std.specs.Char.{to_ascii_uppercase}
 use Rattle.std.specs.List.{before_first, position_or_len}
 use Rattle.std.specs.Str.{bytes_eq}
 use Rattle.item_text.specs.Lines.{Line, trimmed}
+
+-- a lower-case letter of ASCII
+abbrev pub is_lower : ℕ → Bool
+is_lower b = nat_le 97 b && nat_le b 122
 
 -- a text in ASCII upper case
 abbrev pub upper : List ℕ → List ℕ

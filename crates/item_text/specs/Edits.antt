@@ -1,11 +1,8 @@
--- Edits: the text of an item with another UID. This project's own.
-use Rattle.std.specs.Prelude.{ℕ, ◌==◌, Bool, true, false, nat_eq, nat_lt, if◌then◌else◌, List, [], ◌∷◌, ◌++◌, map, length, codes, is_some, Result, Ok, Err}
+-- Edits: how the text of an item with another UID is made. What that text is stands in AnotherUid. This project's own.
+use Rattle.std.specs.Prelude.{ℕ, ◌==◌, Bool, true, false, nat_eq, if◌then◌else◌, List, [], ◌∷◌, ◌++◌, map, codes, is_some}
 use Rattle.std.specs.List.{starts_with, onto_first, slice_split, join_with_byte}
 use Rattle.item_text.specs.Lines.{continues, without_mark, logical_lines}
 use Rattle.item_text.specs.Components.{Kind, Opens, Place, next_place, Placed, placed, holds_uid, uid_at}
-use Rattle.item_text.specs.Items.{ItemValue}
-use Rattle.item_text.specs.declared.item.ItemError.{ItemError}
-use Rattle.item_text.specs.declared.item.ItemError.TheVariants.{TooLong}
 use Rattle.item_text.specs.declared.edit.Role.{Role}
 use Rattle.item_text.specs.declared.edit.Role.TheVariants.{Opener, Giver, Other}
 use Rattle.item_text.specs.declared.edit.Change.{Change}
@@ -71,13 +68,7 @@ mark_of_text text = if starts_with nat_eq text (239 ∷ 187 ∷ 191 ∷ []) then
 unfoldable pub parts_of : List ℕ → List (List ℕ)
 parts_of text = slice_split (λ b. b == 10) (without_mark text)
 
--- The text with another UID: each component that holds a UID has the new one, in a line that ends with CRLF; all other bytes stay.
+-- the text that is made
 unfoldable pub with_uid : List ℕ → List ℕ → List ℕ
 with_uid text uid =
     mark_of_text text ++ join_with_byte 10 (all_changed (uid_line uid ++ (13 ∷ [])) (changes_of (placed (logical_lines text))) (by_line (parts_of text)))
-
--- the item with another UID, or that its text would be too long
-unfoldable pub item_with_uid : ItemValue → List ℕ → Result ItemValue ItemError
-item_with_uid item uid =
-    if nat_lt 8388608 (length (with_uid item.text uid)) then Err TooLong
-    else Ok (record { text = with_uid item.text uid; ident = uid; has_uid = true; version = item.version })

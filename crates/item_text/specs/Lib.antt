@@ -1,3 +1,4 @@
+pub mod AnotherUid
 pub mod Components
 pub mod Edits
 pub mod Fingerprints

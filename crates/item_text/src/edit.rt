@@ -226,8 +226,12 @@ fn uid_line(alloc: Global, uid: &str) -> Result<String, AllocError>
 fn joined(alloc: Global, mark: &str, parts: &[&str]) -> Result<String, AllocError>
     ensures { IfOk result (λ text. string_bytes text ≡ mark.now ++ join_with_byte 10 (map (λ x. x.now) parts.now)) }
 {
+    let body = parts.join(alloc, "\n")?;
+    if mark.is_empty() {
+        return Ok(body);
+    }
     let mut text = String::from_str(alloc, mark)?;
-    text.push_str(parts.join(alloc, "\n")?.as_str())?;
+    text.push_str(body.as_str())?;
     Ok(text)
 }
 

@@ -4,7 +4,7 @@ ghost use Rattle.std.specs.Prelude.{◌≡◌, ◌⊎◌, ◌<◌, ◌≤◌, �
 ghost use Rattle.std.specs.Option.{option_map, unwrap_or};
 ghost use Rattle.hex.specs.Hex.{encode_lower};
 ghost use Rattle.item_text.specs.Components.{placed};
-ghost use Rattle.item_text.specs.Edits.{with_uid, item_with_uid};
+ghost use Rattle.item_text.specs.AnotherUid.{IsWithUid, IsRefused};
 ghost use Rattle.item_text.specs.Plain.{is_plain};
 ghost use Rattle.item_text.specs.Refusals as refused;
 ghost use Rattle.item_text.specs.Items.{item_of, read_item, item_of_text, uid_among};
@@ -202,11 +202,10 @@ impl Item {
     /// name, has the line `UID:` and the new UID, ended by CRLF, in place of its first UID line with all that is folded into it, or
     /// directly behind its opening line where it has no UID (RFC 5545, section 3.8.4.7; RFC 6350, section 6.7.6). All other bytes stay.
     /// `TooLong` where that text has more than 8 MiB.
-    #[tactic(auto, unfolding(crate::specs::Edits::item_with_uid))]
     pub fn with_uid(&self, alloc: Global, uid: &str) -> Result<Item, ItemError>
         requires { is_plain uid.now ≡ true }
-        ensures answer { (result ≡ Err ItemError.NoMemory) ⊎ (result ≡ item_with_uid self.now uid.now) }
-        ensures kept { IfOk result (λ item. (item.text ≡ with_uid self.now.text uid.now) × (item_of item.text ≡ Some item)) }
+        ensures item { IfOk result (λ item. IsWithUid self.now uid.now item) }
+        ensures refused { IfErr result (IsRefused self.now.text uid.now) }
     {
         let Ok(edited) = with_uid(alloc, self.text.as_str(), uid) else {
             return Err(ItemError::NoMemory);

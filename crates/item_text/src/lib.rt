@@ -7,12 +7,14 @@ mod fp;
 mod item;
 mod lines;
 mod normal;
+mod plain;
 mod stack;
 mod walk;
 mod words;
 
 pub use fp::{Fp, fp_hex, fp_of_hex};
 pub use item::{Item, ItemError, MAX_ITEM};
+pub use plain::is_plain;
 
 #[cfg(test)]
 mod tests;

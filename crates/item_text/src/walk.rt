@@ -1,9 +1,10 @@
 //! The walk over the lines of a text: the first refusal, the first UID and what the normal form keeps.
 
-ghost use Rattle.std.specs.Prelude.{◌≡◌, ◌<◌, ◌^◌, ◌++◌, ◌⊎◌, List, [], ◌∷◌, None, Some, Err, OnOk, IfOk, IfErr, map, if◌then◌else◌};
+ghost use Rattle.std.specs.Prelude.{◌≡◌, not, ◌<◌, ◌^◌, ◌++◌, ◌⊎◌, List, [], ◌∷◌, None, Some, Err, true, OnOk, IfOk, IfErr, map, if◌then◌else◌};
+ghost use Rattle.std.specs.List.{list_all};
 ghost use Rattle.std.specs.Option.{option_map};
 ghost use Rattle.item_text.specs.Lines as spec;
-ghost use Rattle.item_text.specs.Components.{upper, kind_of};
+ghost use Rattle.item_text.specs.Components.{upper, is_lower, kind_of};
 ghost use Rattle.item_text.specs.NormalForm as form;
 ghost use Rattle.item_text.specs.Refusals as refused;
 ghost use Rattle.item_text.specs.Kinds.{kind_seen};
@@ -32,10 +33,45 @@ pub(crate) struct Walk<'a> {
     pub(crate) kept: Vec<&'a str>,
 }
 
-/// A head and a name in upper case.
-fn headed<'a>(alloc: Global, bump: &'a Bump, head: &str, name: &str) -> Result<&'a str, AllocError>
+fn is_lower(b: u8) -> bool
+    ensures { result ≡ is_lower b }
+{
+    b'a' <= b && b <= b'z'
+}
+
+fn has_no_lower(bytes: &[u8]) -> bool
+    ensures { result ≡ list_all (λ b. not (is_lower b)) bytes.now }
+{
+    bytes.iter().all(|b| !is_lower(*b))
+}
+
+/// Whether a text is a head and a name, without a lower-case letter.
+fn is_headed(text: &str, head: &str, name: &str) -> bool
+    ensures { result ≡ true → text.now ≡ upper (head.now ++ name.now) }
+{
+    let Some(rest) = text.strip_prefix(head) else {
+        return false;
+    };
+    if rest == name {
+        has_no_lower(text.as_bytes())
+    } else {
+        false
+    }
+}
+
+/// A head and a name in upper case. The text is lent where it is that.
+fn headed<'a>(
+    alloc: Global,
+    bump: &'a Bump,
+    text: &'a str,
+    head: &str,
+    name: &str,
+) -> Result<&'a str, AllocError>
     ensures { IfOk result (λ t. t.now ≡ upper (head.now ++ name.now)) }
 {
+    if is_headed(text, head, name) {
+        return Ok(text);
+    }
     let mut text = String::from_str(alloc, head)?;
     text.push_str(name)?;
     text.make_ascii_uppercase();
@@ -53,8 +89,8 @@ fn written<'a>(
     ensures { IfOk result (λ t. t.now ≡ form.written_as text.now (kind_seen kind.entry)) }
 {
     match kind {
-        LineKind::Opens(name) => headed(alloc, bump, "BEGIN:", name),
-        LineKind::Closes(name) => headed(alloc, bump, "END:", name),
+        LineKind::Opens(name) => headed(alloc, bump, text, "BEGIN:", name),
+        LineKind::Closes(name) => headed(alloc, bump, text, "END:", name),
         LineKind::Property(_, _) => Ok(text),
         LineKind::Blank => Ok(text),
     }
