@@ -27,8 +27,8 @@ body_texts h bytes body x = texts_from _ (list_all is_utf8 (codings_of h.headers
 with_texts : (total : ℕ) (h : HeadParts) (bytes : List ℕ) (found : Found (List ℕ × List ℕ)) (parts : ReplyParts) → ReadsBody (framing_of h) bytes found
     → got parts ≡ with_body total h found → list_all is_utf8 (codings_of parts.headers) ≡ true
 with_texts total h bytes (got body) parts x is =
-    let same : got parts ≡ got (record { code = h.code; headers = h.headers; body = body.0; used = total - length body.1 }) = is in
-    let inner : parts ≡ record { code = h.code; headers = h.headers; body = body.0; used = total - length body.1 } = cc in
+    let same : got parts ≡ got (record { version = h.version; code = h.code; headers = h.headers; body = body.0; used = total - length body.1 }) = is in
+    let inner : parts ≡ record { version = h.version; code = h.code; headers = h.headers; body = body.0; used = total - length body.1 } = cc in
     ap (λ p. list_all is_utf8 (codings_of p.headers)) inner ∙ body_texts h bytes body x
 with_texts total h bytes short parts x is = let clash : got parts ≡ short = is in cc
 with_texts total h bytes bad parts x is = let clash : got parts ≡ bad = is in cc

@@ -1,8 +1,8 @@
 -- An answer that says what bytes are is the only one: lemmas on specs/Replies.antt
 use Rattle.std.proofs.Common.{◌≡◌, refl, ℕ, List, Some, None, Result, Ok, Err, sym, ◌∙◌, ap, inl, inr}
 use Rattle.http_client.specs.declared.reply.Reply.{Reply}
-use Rattle.http_client.specs.declared.reply.ReplyError.{ReplyError}
-use Rattle.http_client.specs.declared.reply.ReplyError.TheVariants.{Short, Bad, Coded, NoMemory}
+use Rattle.http_client.specs.declared.error.ReplyError.{ReplyError}
+use Rattle.http_client.specs.declared.error.ReplyError.TheVariants.{Short, Bad, Coded, NoMemory}
 use Rattle.http_client.specs.Frames.{got, short, bad}
 use Rattle.http_client.specs.Heads.{coding_of}
 use Rattle.http_client.specs.Replies.{ReplyParts, parts_of, ReadsReply, IsAnswer, Gives, Refuses}

@@ -3,8 +3,8 @@ use Rattle.std.proofs.Common.{ℕ, List, Result, Ok, Err}
 use Rattle.http_client.specs.declared.chunks.Piece.{Piece}
 use Rattle.http_client.specs.declared.chunks.Piece.TheVariants.{Chunk, Last}
 use Rattle.http_client.specs.declared.reply.Reply.{Reply}
-use Rattle.http_client.specs.declared.reply.ReplyError.{ReplyError}
-use Rattle.http_client.specs.declared.reply.ReplyError.TheVariants.{Short, Bad, Coded, NoMemory}
+use Rattle.http_client.specs.declared.error.ReplyError.{ReplyError}
+use Rattle.http_client.specs.declared.error.ReplyError.TheVariants.{Short, Bad, Coded, NoMemory}
 use Rattle.http_client.specs.Frames.{Found, got, short, bad, Step, onward, ended}
 use Rattle.http_client.specs.Parts.{StepIs}
 use Rattle.http_client.specs.Replies.{ReplyParts, parts_of, ReadsReply, IsAnswer, OnRefusal, Finds}

@@ -1,7 +1,7 @@
 -- Lemmas on specs/Request.antt
-use Rattle.std.proofs.Common.{◌≡◌, ℕ, List, ◌∷◌, ◌++◌, codes, length, ap, sym, ◌∙◌, append_assoc}
+use Rattle.std.proofs.Common.{◌≡◌, ℕ, List, ◌∷◌, ◌++◌, codes, ap, sym, ◌∙◌, append_assoc}
 use Rattle.http_client.specs.declared.request.Request.{Request}
-use Rattle.http_client.specs.Request.{start_line, field_line, host_of, base64_of, credentials, login_lines, extra_lines, length_lines, head_bytes}
+use Rattle.http_client.specs.Request.{sent_body, start_line, field_line, host_of, base64_of, credentials, login_lines, extra_lines, length_lines, head_bytes}
 
 -- eight texts behind one another
 eight_parts : (o a b c d e f g h o1 o2 o3 o4 o5 o6 o7 o8 : List ℕ)
@@ -20,7 +20,7 @@ pub head_written : (r : Request) (o o1 o2 o3 o4 o5 o6 o7 o8 : List ℕ)
     → o5 ≡ o4 ++ field_line (codes "Connection") (codes "close")
     → o6 ≡ o5 ++ login_lines r.login
     → o7 ≡ o6 ++ extra_lines r.extra.items
-    → o8 ≡ o7 ++ length_lines r.method (length r.body)
+    → o8 ≡ o7 ++ length_lines (sent_body r.method)
     → o8 ≡ o ++ head_bytes r
 unfolding head_bytes
 head_written r o o1 o2 o3 o4 o5 o6 o7 o8 p1 p2 p3 p4 p5 p6 p7 p8 =

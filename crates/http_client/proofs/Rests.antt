@@ -1,5 +1,5 @@
 -- Lemmas on what is left behind a head, a size line or a chunk, of specs/Heads.antt and specs/Chunks.antt
-use Rattle.std.proofs.Common.{◌≡◌, refl, ℕ, ◌+◌, ◌-◌, ◌<◌, ◌≤◌, List, [], ◌∷◌, ◌++◌, Option, Some, true, false, length, take, drop, map, sym, ◌∙◌, ap, append_assoc, length-append, length-drop, arith}
+use Rattle.std.proofs.Common.{◌≡◌, refl, ℕ, ◌+◌, ◌-◌, ◌<◌, ◌≤◌, List, [], ◌∷◌, ◌++◌, Option, Some, true, false, length, take, drop, map, sym, ◌∙◌, ap, subst, append_assoc, length-append, length-drop, arith}
 use Rattle.std.specs.List.{concat, All}
 use Rattle.std.specs.Str.{IsUtf8}
 use Rattle.std.proofs.lemmas.Bool.{cond-true, cond-false}
@@ -13,9 +13,11 @@ use Rattle.httparse.specs.Spans.{header_bytes, name_and_value, IsChunkLineAt}
 use Rattle.httparse.specs.declared.spans.HeaderSpan.{HeaderSpan}
 use Rattle.httparse.specs.declared.spans.ResponseSpans.{ResponseSpans}
 use Rattle.http_client.specs.Frames.{empty_line_end, Found, got, Step, onward, ended}
-use Rattle.http_client.specs.Heads.{HeaderField, HeadParts, parts_of_head, HasHead, is_interim, HeadStep}
+use Rattle.http_client.specs.declared.head.Version.{Version}
+use Rattle.http_client.specs.Heads.{HeaderField, HeadParts, version_of, parts_of_head, HasHead, is_interim, HeadStep}
 use Rattle.http_client.specs.Chunks.{trailer_len, behind_trailer, chunk_of_size}
-use Rattle.http_client.specs.Parts.{HasPart, IsTextIn}
+use Rattle.http_client.specs.Parts.{HasPart, HasHeadAt, spans_parts, ReadsLastHead, IsTextIn}
+use Rattle.http_client.proofs.Walks.{Leads, Leads-more, Leads-end}
 
 pub concat-push : (xs : List (List ℕ)) (x : List ℕ) → concat (xs ++ x ∷ []) ≡ concat xs ++ x
 concat-push [] x = append-nil x
@@ -74,43 +76,85 @@ response_some : (h : ResponseHead) → 0 < length (print_response h)
 unfolding print_response
 response_some h = simp length-append (omega arith)
 
-pub part_shorter : (bytes : List ℕ) (end : ℕ) (spans : List HeaderSpan) (found : ResponseSpans) → HasPart (take end bytes) spans found
-    → length (take (length bytes - found.len) (drop found.len bytes)) < length bytes
-part_shorter bytes end spans found p =
+pub part_some : (part : List ℕ) (fields : List HeaderSpan) (spans : ResponseSpans) → HasPart part fields spans → 0 < spans.len
+part_some part fields spans p =
     let some = response_some p.head in
     let len = p.is_at.len in
+    omega arith
+
+pub part_within : (bytes : List ℕ) (end : ℕ) (fields : List HeaderSpan) (spans : ResponseSpans) → HasPart (take end bytes) fields spans
+    → spans.len ≤ length bytes
+part_within bytes end fields spans p =
     let fits = p.within.section.len_fits in
     let cut = length-take end bytes in
-    let positive : 0 < found.len = omega arith in
-    let below : found.len ≤ length bytes = omega arith in
-    rest_shorter bytes found.len positive below
+    omega arith
 
-parts_same : (a b : ℕ) (xs ys : List HeaderField) (h : HeadParts) → a ≡ b → xs ≡ ys → record { code = b; headers = ys } ≡ h
-    → record { code = a; headers = xs } ≡ h
-parts_same a b xs ys h code headers is =
-    let one : HeadParts = record { code = a; headers = xs } in
-    let two : HeadParts = record { code = b; headers = ys } in
-    ap (λ c. record one { code = c }) code ∙ ap (λ hs. record two { headers = hs }) headers ∙ is
+parts_same : (u v : Version) (a b : ℕ) (xs ys : List HeaderField) (h : HeadParts) → u ≡ v → a ≡ b → xs ≡ ys
+    → record { version = v; code = b; headers = ys } ≡ h → record { version = u; code = a; headers = xs } ≡ h
+parts_same u v a b xs ys h version code headers is =
+    let one : HeadParts = record { version = u; code = a; headers = xs } in
+    let two : HeadParts = record { version = v; code = a; headers = xs } in
+    let three : HeadParts = record { version = v; code = b; headers = xs } in
+    ap (λ w. record one { version = w }) version ∙ ap (λ c. record two { code = c }) code
+    ∙ ap (λ hs. record three { headers = hs }) headers ∙ is
 
-pub head_read : (bytes : List ℕ) (end : ℕ) (spans : List HeaderSpan) (found : ResponseSpans) (headers : List HeaderField)
-    → Some end ≡ empty_line_end bytes → length spans ≡ 100 → HasPart (take end bytes) spans found
-    → headers ≡ map (header_bytes (take end bytes)) (take found.headers spans)
-    → HasHead bytes (record { code = found.code; headers = headers }) (take (length bytes - found.len) (drop found.len bytes))
-head_read bytes end spans found headers is room p copied =
-    let counts : length (take found.headers spans) ≡ length p.head.fields =
-    sym (length-map (take found.headers spans) (header_bytes (take end bytes))) ∙ ap length p.is_at.fields ∙ length-map p.head.fields name_and_value in
-    let taken = length-take found.headers spans in
+-- a head whose fields are lent
+pub head_lent : (part : List ℕ) (fields : List HeaderSpan) (spans : ResponseSpans) (version : Version) (headers : List HeaderField)
+    → version ≡ version_of spans.version → headers ≡ map (header_bytes part) (take spans.headers fields)
+    → record { version = version; code = spans.code; headers = headers } ≡ spans_parts part fields spans
+head_lent part fields spans version headers told lent =
+    parts_same version _ spans.code spans.code headers _ (spans_parts part fields spans) told refl lent refl
+
+cut_read : (bytes : List ℕ) (end : ℕ) (fields : List HeaderSpan) (spans : ResponseSpans)
+    → empty_line_end bytes ≡ Some end → length fields ≡ 100 → HasPart (take end bytes) fields spans
+    → HasHead bytes (spans_parts (take end bytes) fields spans) (take (length bytes - spans.len) (drop spans.len bytes))
+cut_read bytes end fields spans is room p =
+    let counts : length (take spans.headers fields) ≡ length p.head.fields =
+    sym (length-map (take spans.headers fields) (header_bytes (take end bytes))) ∙ ap length p.is_at.fields ∙ length-map p.head.fields name_and_value in
+    let taken = length-take spans.headers fields in
     let fits = p.within.section.len_fits in
     record {
       end = end;
-      end_is = sym is;
+      end_is = is;
       head = p.head;
-      over = drop found.len (take end bytes);
+      over = drop spans.len (take end bytes);
       reads = p.is_at.reads;
       room = omega arith;
-      parts_are = parts_same found.code _ headers _ (parts_of_head p.head) p.is_at.code (copied ∙ p.is_at.fields) refl;
+      parts_are = parts_same _ _ spans.code _ _ _ (parts_of_head p.head) (ap version_of p.is_at.version) p.is_at.code p.is_at.fields refl;
       behind_is =
-          take_rest bytes found.len
-          ∙ ap (drop found.len) (sym (take-append-drop end bytes))
-          ∙ drop-append-le found.len (take end bytes) (drop end bytes) fits;
+          take_rest bytes spans.len
+          ∙ ap (drop spans.len) (sym (take-append-drop end bytes))
+          ∙ drop-append-le spans.len (take end bytes) (drop end bytes) fits;
     }
+
+pub head_read : (bytes : List ℕ) (fields : List HeaderSpan) (part : List ℕ) (spans : ResponseSpans) → HasHeadAt bytes fields part spans
+    → HasHead bytes (spans_parts part fields spans) (take (length bytes - spans.len) (drop spans.len bytes))
+head_read bytes fields part spans h =
+    subst (λ cut. HasHead bytes (spans_parts cut fields spans) (take (length bytes - spans.len) (drop spans.len bytes))) (sym h.part_is)
+    (cut_read bytes h.end fields spans h.end_is h.room (subst (λ cut. HasPart cut fields spans) h.part_is h.has))
+
+-- an interim head is passed over
+pub head_passed : (bytes rest : List ℕ) (fields : List HeaderSpan) (part : List ℕ) (spans : ResponseSpans) (interim : List HeadParts)
+    → Leads HeadStep bytes rest interim → HasHeadAt rest fields part spans → is_interim spans.code ≡ true
+    → Leads HeadStep bytes (take (length rest - spans.len) (drop spans.len rest)) (interim ++ spans_parts part fields spans ∷ [])
+head_passed bytes rest fields part spans interim led h passed =
+    let behind : List ℕ = take (length rest - spans.len) (drop spans.len rest) in
+    Leads-more HeadStep bytes rest behind interim (spans_parts part fields spans) led
+    (head_goes rest (spans_parts part fields spans, behind) passed (head_read rest fields part spans h))
+
+-- another head is the last
+pub head_last : (bytes rest : List ℕ) (fields : List HeaderSpan) (part : List ℕ) (spans : ResponseSpans) (head : HeadParts) (interim : List HeadParts)
+    → Leads HeadStep bytes rest interim → HasHeadAt rest fields part spans → is_interim spans.code ≡ false
+    → head ≡ spans_parts part fields spans
+    → ReadsLastHead bytes (got (head, take (length rest - spans.len) (drop spans.len rest)))
+head_last bytes rest fields part spans head interim led h last is =
+    let behind : List ℕ = take (length rest - spans.len) (drop spans.len rest) in
+    subst (λ parts. ReadsLastHead bytes (got (parts, behind))) (sym is) (
+      interim,
+      Leads-end HeadStep bytes rest interim (got (spans_parts part fields spans, behind)) led
+          (head_ends rest (spans_parts part fields spans, behind) last (head_read rest fields part spans h)),
+    )
+
+pub behind_within : (bytes rest : List ℕ) (n : ℕ) → n ≤ length rest → length rest ≤ length bytes
+    → length (take (length rest - n) (drop n rest)) ≤ length bytes
+behind_within bytes rest n fits within = rw take_rest (omega (arith, length-drop n rest))

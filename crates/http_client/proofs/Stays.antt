@@ -298,7 +298,7 @@ reply_bad : (bytes more : List ℕ) (interim : List HeadParts) (head : HeadParts
     → Repeats HeadStep bytes interim (got head) → ReadsBody (framing_of head.0) head.1 body → bad ≡ with_body (length bytes) head.0 body
     → ReadsReply (bytes ++ more) bad
 reply_bad bytes more interim head (got b) x y e =
-    absurd (not_got (record { code = head.0.code; headers = head.0.headers; body = b.0; used = length bytes - length b.1 }) e)
+    absurd (not_got (record { version = head.0.version; code = head.0.code; headers = head.0.headers; body = b.0; used = length bytes - length b.1 }) e)
 reply_bad bytes more interim head short x y e = let clash : bad ≡ short = e in cc
 reply_bad bytes more interim head bad x y e = record {
   interim = interim;

@@ -6,6 +6,8 @@ use Rattle.std.specs.Str.{bytes_eq, is_utf8, str_eq_ignore_ascii_case}
 use Rattle.std.specs.Str.Parse.{digits_value}
 use Rattle.httparse.specs.Grammar.{ResponseHead, ReadsResponse, status_code}
 use Rattle.httparse.specs.Spans.{name_and_value}
+use Rattle.http_client.specs.declared.head.Version.{Version}
+use Rattle.http_client.specs.declared.head.Version.TheVariants.{Http10, Http11}
 use Rattle.http_client.specs.declared.head.Framing.{Framing}
 use Rattle.http_client.specs.declared.head.Framing.TheVariants.{Nothing, Chunked, Length, ToEnd, Refused}
 use Rattle.http_client.specs.Frames.{empty_line_end, Found, got, short, bad, Step, onward, ended}
@@ -16,11 +18,16 @@ HeaderField = List ℕ × List ℕ
 
 -- what a head tells
 pub record HeadParts : Type 0 where
+  pub version : Version
   pub code : ℕ
   pub headers : List HeaderField
 
+-- HTTP/1.0 or HTTP/1.1, by the minor number (RFC 9112, section 2.3)
+abbrev pub version_of : ℕ → Version
+version_of minor = if minor == 0 then Http10 else Http11
+
 abbrev pub parts_of_head : ResponseHead → HeadParts
-parts_of_head h = record { code = status_code h; headers = map name_and_value h.fields }
+parts_of_head h = record { version = version_of h.minor; code = status_code h; headers = map name_and_value h.fields }
 
 -- bytes have this head, of at most 100 fields, in what goes up to and including their first empty line
 pub record HasHead (bytes : List ℕ) (parts : HeadParts) (behind : List ℕ) : Type 0 where
@@ -70,7 +77,7 @@ is_length value = nat_le 1 (length value) && nat_le (length value) 18 && list_al
 -- by all its values, which must be equal
 abbrev pub length_framing : List (List ℕ) → Framing
 length_framing [] = ToEnd
-length_framing (v ∷ vs) = if list_all (bytes_eq v) (v ∷ vs) && is_length v then Length (digits_value 10 v) else Refused
+length_framing (v ∷ vs) = if list_all (bytes_eq v) vs && is_length v then Length (digits_value 10 v) else Refused
 
 -- by the values of Transfer-Encoding, of which there is one, and by those of Content-Length only without it
 abbrev pub coded_framing : List (List ℕ) → List HeaderField → Framing

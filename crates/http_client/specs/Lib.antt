@@ -4,3 +4,4 @@ pub mod Heads
 pub mod Parts
 pub mod Replies
 pub mod Request
+pub mod Texts

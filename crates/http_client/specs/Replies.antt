@@ -1,17 +1,19 @@
 -- What bytes are as a reply: the reply at their front, or why there is none (RFC 9112, sections 4 to 7; the
 -- refusals and their order are this project's own).
 use Rattle.std.specs.Prelude.{◌≡◌, ◌⊎◌, ℕ, ◌-◌, List, [], length, take, drop, Some, None, Result, Ok, Err, if◌then◌else◌, nat_lt}
+use Rattle.http_client.specs.declared.head.Version.{Version}
 use Rattle.http_client.specs.declared.head.Framing.{Framing}
 use Rattle.http_client.specs.declared.head.Framing.TheVariants.{Nothing, Chunked, Length, ToEnd, Refused}
 use Rattle.http_client.specs.declared.reply.Reply.{Reply}
-use Rattle.http_client.specs.declared.reply.ReplyError.{ReplyError}
-use Rattle.http_client.specs.declared.reply.ReplyError.TheVariants.{Short, Bad, Coded, NoMemory}
+use Rattle.http_client.specs.declared.error.ReplyError.{ReplyError}
+use Rattle.http_client.specs.declared.error.ReplyError.TheVariants.{Short, Bad, Coded, NoMemory}
 use Rattle.http_client.specs.Frames.{Found, got, short, bad, Repeats}
 use Rattle.http_client.specs.Heads.{HeaderField, HeadParts, HeadStep, framing_of, coding_of}
 use Rattle.http_client.specs.Chunks.{ReadsChunked}
 
 -- a reply, and the length of its bytes
 pub record ReplyParts : Type 0 where
+  pub version : Version
   pub code : ℕ
   pub headers : List HeaderField
   pub body : List ℕ
@@ -27,7 +29,7 @@ ReadsBody Refused bytes found = found ≡ bad
 
 -- the reply that a head and a body are, the first of so many bytes
 abbrev pub with_body : ℕ → HeadParts → Found (List ℕ × List ℕ) → Found ReplyParts
-with_body total head (got body) = got (record { code = head.code; headers = head.headers; body = body.0; used = total - length body.1 })
+with_body total head (got body) = got (record { version = head.version; code = head.code; headers = head.headers; body = body.0; used = total - length body.1 })
 with_body total head short = short
 with_body total head bad = bad
 
@@ -46,7 +48,7 @@ pub record ReadsReply (bytes : List ℕ) (found : Found ReplyParts) : Type 0 whe
   pub final : ReadsFinal (length bytes) last found
 
 abbrev pub parts_of : Reply → ReplyParts
-parts_of r = record { code = r.code; headers = r.headers.items; body = r.body; used = r.used }
+parts_of r = record { version = r.version; code = r.code; headers = r.headers.items; body = r.body; used = r.used }
 
 -- the answer says what bytes are; a reply under a content coding isn't taken
 abbrev pub IsAnswer : List ℕ → Result Reply ReplyError → Type 0

@@ -1,5 +1,5 @@
 -- The bytes of a request (RFC 9112, sections 2 to 6; the choice and order of fields is this project's own).
-use Rattle.std.specs.Prelude.{ℕ, Bool, true, false, List, [], ◌++◌, length, Option, Some, None, codes, if◌then◌else◌, ◌==◌}
+use Rattle.std.specs.Prelude.{ℕ, List, [], ◌++◌, length, Option, Some, None, codes, if◌then◌else◌, ◌==◌}
 use Rattle.std.specs.List.{flat_map}
 use Rattle.std.specs.Fmt.{decimal}
 use Rattle.httparse.specs.Ascii.{crlf_bytes}
@@ -10,12 +10,21 @@ use Rattle.http_client.specs.declared.request.Method.TheVariants.{Propfind, Prop
 use Rattle.http_client.specs.declared.request.Request.{Request}
 
 abbrev pub method_name : Method → List ℕ
-method_name Propfind = codes "PROPFIND"
-method_name Proppatch = codes "PROPPATCH"
-method_name Report = codes "REPORT"
-method_name Put = codes "PUT"
+method_name (Propfind body) = codes "PROPFIND"
+method_name (Proppatch body) = codes "PROPPATCH"
+method_name (Report body) = codes "REPORT"
+method_name (Put body) = codes "PUT"
 method_name Delete = codes "DELETE"
-method_name Mkcol = codes "MKCOL"
+method_name (Mkcol body) = codes "MKCOL"
+
+-- the body that is sent; a DELETE has none (RFC 9110, section 9.3.5)
+abbrev pub sent_body : Method → Option (List ℕ)
+sent_body (Propfind body) = Some body
+sent_body (Proppatch body) = Some body
+sent_body (Report body) = Some body
+sent_body (Put body) = Some body
+sent_body Delete = None
+sent_body (Mkcol body) = Some body
 
 -- the request line: METHOD SP PATH SP HTTP/1.1 CR LF (RFC 9112, section 3)
 abbrev pub start_line : Method → List ℕ → List ℕ
@@ -44,17 +53,14 @@ login_lines (Some login) = field_line (codes "Authorization") (credentials login
 abbrev pub extra_lines : List (List ℕ × List ℕ) → List ℕ
 extra_lines fields = flat_map (λ field. field_line field.0 field.1) fields
 
--- every method but DELETE is sent with the length of its body
-abbrev pub sends_length : Method → Bool
-sends_length Propfind = true
-sends_length Proppatch = true
-sends_length Report = true
-sends_length Put = true
-sends_length Delete = false
-sends_length Mkcol = true
+-- the length of a body that is sent (RFC 9110, section 8.6)
+abbrev pub length_lines : Option (List ℕ) → List ℕ
+length_lines None = []
+length_lines (Some body) = field_line (codes "Content-Length") (decimal (length body))
 
-abbrev pub length_lines : Method → ℕ → List ℕ
-length_lines method size = if sends_length method then field_line (codes "Content-Length") (decimal size) else []
+abbrev pub body_bytes : Option (List ℕ) → List ℕ
+body_bytes None = []
+body_bytes (Some body) = body
 
 -- the request line and the fields
 unfoldable pub head_bytes : Request → List ℕ
@@ -66,8 +72,8 @@ head_bytes r =
     ++ field_line (codes "Connection") (codes "close")
     ++ login_lines r.login
     ++ extra_lines r.extra.items
-    ++ length_lines r.method (length r.body)
+    ++ length_lines (sent_body r.method)
 
 -- the head, an empty line and the body
 abbrev pub request_bytes : Request → List ℕ
-request_bytes r = head_bytes r ++ crlf_bytes ++ r.body
+request_bytes r = head_bytes r ++ crlf_bytes ++ body_bytes (sent_body r.method)

@@ -5,8 +5,9 @@ ghost use Rattle.http_client.specs.Chunks.{ReadsSize, ChunkStep, chunk_of_size, 
 ghost use Rattle.http_client.specs.Parts.{StepIs, LeavesBelow};
 ghost use Rattle.http_client.specs.Replies.{Finds};
 
+use crate::body::Body;
+use crate::error::ReplyError;
 use crate::frames::{empty_line_end, line_end_len};
-use crate::reply::ReplyError;
 use httparse::{Status, parse_chunk_size};
 use std::alloc::Global;
 
@@ -18,12 +19,13 @@ enum Piece<'b> {
     Last(&'b [u8]),
 }
 
-/// Reads a chunked body, and answers the data of its chunks and the bytes behind it.
-pub(crate) fn chunked_body(alloc: Global, bytes: &[u8]) -> Result<(Vec<u8>, &[u8]), ReplyError>
-    ensures found { Finds (λ found. (found.0.items, found.1.now)) result (ReadsChunked bytes.now) }
+/// Reads a chunked body, and answers the data of its chunks and the bytes behind it. The data of a
+/// lone chunk is lent; that of several is copied once, into memory for all bytes that are left.
+pub(crate) fn chunked_body(alloc: Global, bytes: &[u8]) -> Result<(Body<'_>, &[u8]), ReplyError>
+    ensures found { Finds (λ found. (found.0, found.1.now)) result (ReadsChunked bytes.now) }
     ensures shorter { IfOk result (λ found. length found.1.now ≤ length bytes.now) }
 {
-    let mut body = Vec::new(alloc);
+    let mut body = Body::lent(&[]);
     let mut rest = bytes;
     'chunks: loop {
         match piece_at(rest) {
@@ -31,9 +33,10 @@ pub(crate) fn chunked_body(alloc: Global, bytes: &[u8]) -> Result<(Vec<u8>, &[u8
             Ok(piece) => match piece {
                 Piece::Last(behind) => return Ok((body, behind)),
                 Piece::Chunk(data, behind) => {
-                    let Ok(()) = body.extend_from_slice(data) else {
+                    let Ok(longer) = body.with_piece(alloc, data, bytes.len()) else {
                         return Err(ReplyError::NoMemory);
                     };
+                    body = longer;
                     rest = behind;
                 }
             },

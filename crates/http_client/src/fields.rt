@@ -1,50 +1,111 @@
-//! The values of header fields.
+//! The header fields of a reply, and the values of those of a name.
 
-ghost use Rattle.std.specs.Prelude.{◌≡◌, [], ◌∷◌, ◌++◌, true, IfOk, OnOk, option_map};
+ghost use Rattle.std.specs.Prelude.{◌≡◌, true, drop, option_map};
+ghost use Rattle.std.specs.Iterator.{YieldsFirstRef};
 ghost use Rattle.std.specs.List.{list_all};
 ghost use Rattle.std.specs.Char.{is_ascii_digit};
 ghost use Rattle.std.specs.Str.{bytes_eq, is_utf8, str_eq_ignore_ascii_case};
 ghost use Rattle.std.specs.Str.Parse.{digits_value};
 ghost use Rattle.http_client.specs.Heads.{values_of, is_length, first_coding};
 
-use std::alloc::{AllocError, Global};
-use values::{Bytes, Text};
+use std::marker::Model;
 
 /// The most digits of a length.
 const MAX_DIGITS: usize = 18;
 
-/// Copies of the values of the fields of a name, in any ASCII case, in order.
-pub(crate) fn values_of(
-    alloc: Global,
-    headers: &[(Text, Bytes)],
-    name: &str,
-) -> Result<Vec<Bytes>, AllocError>
-    ensures { IfOk result (λ values. values.items ≡ values_of name.now headers.now) }
-{
-    let mut values = Vec::new(alloc);
-    for field in headers {
-        add_value(alloc, &mut values, field, name)?;
-    }
-    Ok(values)
+/// A header field of a reply: its name as sent, and its value without white space around it. Both
+/// are lent from the reply's bytes. Contracts see the pair of the two.
+#[derive(Debug, Drop)]
+pub struct Header<'a> {
+    name: &'a str,
+    value: &'a [u8],
 }
 
-/// Adds the value of a field that has the name.
-fn add_value(
-    alloc: Global,
-    values: &mut Vec<Bytes>,
-    field: &(Text, Bytes),
-    name: &str,
-) -> Result<(), AllocError>
-    ensures { OnOk result (values.new.items ≡ values.old.items ++ values_of name.now (field.now ∷ [])) }
+impl<'a> Model for Header<'a> {
+    ghost use Rattle.std.specs.Prelude.{ℕ, List};
+
+    ghost Value = { List ℕ × List ℕ };
+
+    ghost view = { λ h. (h.name.now, h.value.now) };
+}
+
+impl<'a> Header<'a> {
+    pub(crate) fn of(name: &'a str, value: &'a [u8]) -> Header<'a>
+        ensures { result ≡ (name.now, value.now) }
+    {
+        Header { name, value }
+    }
+
+    pub fn name(&self) -> &'a str
+        ensures { result.now ≡ self.now.0 }
+    {
+        self.name
+    }
+
+    pub fn value(&self) -> &'a [u8]
+        ensures { result.now ≡ self.now.1 }
+    {
+        self.value
+    }
+}
+
+/// The values of the fields of a name, one after another, lent from the reply's bytes. Contracts
+/// see the list of those that are left.
+#[derive(Drop)]
+pub struct ValuesOf<'r, 'a> {
+    fields: &'r [Header<'a>],
+    name: &'r str,
+    /// How many fields were looked at.
+    at: usize,
+}
+
+impl<'r, 'a> Model for ValuesOf<'r, 'a> {
+    ghost use Rattle.std.specs.Prelude.{ℕ, List, drop};
+    ghost use Rattle.http_client.specs.Heads.{values_of};
+
+    ghost Value = { List (List ℕ) };
+
+    ghost view = { λ v. values_of v.name.now (drop v.at v.fields.now) };
+}
+
+impl<'r, 'a> Iterator for ValuesOf<'r, 'a> {
+    ghost use Rattle.std.specs.Iterator.{YieldsFirstRef, item_count};
+
+    type Item = &'a [u8];
+
+    ghost next_gives = { YieldsFirstRef (λ left. left) };
+
+    ghost remaining = { item_count (λ left. left) };
+
+    fn next(&mut self) -> Option<&'a [u8]> {
+        let found = first_named(self.fields, self.name, self.at);
+        self.at = found.1;
+        found.0
+    }
+}
+
+/// The values of the fields of a name, in any ASCII case, in order.
+pub(crate) fn values_of<'r, 'a>(fields: &'r [Header<'a>], name: &'r str) -> ValuesOf<'r, 'a>
+    ensures { result ≡ values_of name.now fields.now }
 {
-    if !is_same(field.0.as_str().as_bytes(), name) {
-        return Ok(());
+    ValuesOf {
+        fields,
+        name,
+        at: 0,
     }
-    let copy = Vec::from_slice(alloc, field.1.as_slice())?;
-    match values.push(Bytes::of(copy)) {
-        Err(_) => Err(AllocError),
-        Ok(()) => Ok(()),
+}
+
+/// The value of the first field of a name from a place on, if there is one, and the place behind it.
+fn first_named<'a>(fields: &[Header<'a>], name: &str, from: usize) -> (Option<&'a [u8]>, usize)
+    ensures { YieldsFirstRef (λ at. values_of name.now (drop at fields.now)) from result.0 result.1 }
+{
+    for at in from..fields.len() {
+        let field = &fields[at];
+        if is_same(field.name().as_bytes(), name) {
+            return (Some(field.value()), at + 1);
+        }
     }
+    (None, fields.len())
 }
 
 /// Whether bytes are a text, in any ASCII case.
@@ -55,11 +116,11 @@ pub(crate) fn is_same(bytes: &[u8], text: &str) -> bool
 }
 
 /// Whether each value is UTF-8.
-pub(crate) fn are_texts(values: &[Bytes]) -> bool
-    ensures { result ≡ list_all is_utf8 values.now }
+pub(crate) fn are_texts(values: ValuesOf) -> bool
+    ensures { result ≡ list_all is_utf8 values.entry }
 {
     for value in values {
-        if !is_text(value.as_slice()) {
+        if !is_text(value) {
             return false;
         }
     }
@@ -77,11 +138,11 @@ fn is_text(bytes: &[u8]) -> bool
 }
 
 /// Whether each value is this one.
-pub(crate) fn are_equal(first: &[u8], values: &[Bytes]) -> bool
-    ensures { result ≡ list_all (bytes_eq first.now) values.now }
+pub(crate) fn are_equal(first: &[u8], values: ValuesOf) -> bool
+    ensures { result ≡ list_all (bytes_eq first.now) values.entry }
 {
     for value in values {
-        if first != value.as_slice() {
+        if first != value {
             return false;
         }
     }
@@ -120,12 +181,12 @@ pub(crate) fn length_in(value: &[u8]) -> u64
 }
 
 /// The first value that isn't `identity`, of values that are UTF-8.
-pub(crate) fn first_coding(values: &[Bytes]) -> Option<&[u8]>
-    ensures { option_map (λ coding. coding.now) result ≡ first_coding values.now }
+pub(crate) fn first_coding<'a>(values: ValuesOf<'_, 'a>) -> Option<&'a [u8]>
+    ensures { option_map (λ coding. coding.now) result ≡ first_coding values.entry }
 {
     for value in values {
-        if !is_same(value.as_slice(), "identity") {
-            return Some(value.as_slice());
+        if !is_same(value, "identity") {
+            return Some(value);
         }
     }
     None

@@ -1,28 +1,35 @@
-//! The head of a reply: its code, its fields, and what they say of the body.
+//! The head of a reply: its version, its code, its fields, and what they say of the body.
 
-ghost use Rattle.std.specs.Prelude.{◌≡◌, ◌<◌, List, length, map, All, IfOk};
+ghost use Rattle.std.specs.Prelude.{◌≡◌, ◌≤◌, ◌<◌, List, [], ◌∷◌, length, map, codes, All, IfOk};
 ghost use Rattle.httparse.specs.Spans.{IsHeaderWithin, header_bytes};
-ghost use Rattle.http_client.specs.Heads.{HeaderField, ReadsHead, is_interim, length_framing, coded_framing, framing_of};
-ghost use Rattle.http_client.specs.Parts.{PartIs, head_parts, IsTextIn};
-ghost use Rattle.http_client.specs.Replies.{Finds};
+ghost use Rattle.http_client.specs.Heads.{HeaderField, version_of, is_interim, length_framing, coded_framing, values_of, framing_of};
+ghost use Rattle.http_client.specs.Parts.{PartIs, HasPart, FindsHead, head_parts, spans_parts, IsTextIn};
 
-use crate::fields::{are_equal, are_texts, is_length, is_same, length_in, values_of};
+use crate::error::ReplyError;
+use crate::fields::{
+    Header, ValuesOf, are_equal, are_texts, is_length, is_same, length_in, values_of,
+};
 use crate::frames::empty_line_end;
-use crate::reply::ReplyError;
 use httparse::Status;
-use httparse::spans::{EMPTY_HEADER_SPAN, HeaderSpan, ResponseSpans, parse_response};
+use httparse::spans::{HeaderSpan, ResponseSpans, parse_response};
 use std::alloc::{AllocError, Global};
-use values::{Bytes, Text};
 
 /// The most header fields of a reply.
-const MAX_HEADERS: usize = 100;
+pub(crate) const MAX_HEADERS: usize = 100;
+
+/// The version of HTTP that a reply's head names (RFC 9112, section 2.3).
+#[derive(Clone, Copy, Debug, PartialEq, Eq)]
+pub enum Version {
+    Http10,
+    Http11,
+}
 
 /// The head of a reply.
 #[derive(Drop)]
-pub(crate) struct Head {
+pub(crate) struct Head<'a> {
+    pub(crate) version: Version,
     pub(crate) code: u16,
-    /// The names and values of the fields, the values without white space around them.
-    pub(crate) headers: Vec<(Text, Bytes)>,
+    pub(crate) headers: Vec<Header<'a>>,
 }
 
 /// How the end of a body is told (RFC 9112, section 6.3).
@@ -35,27 +42,49 @@ pub(crate) enum Framing {
     Refused,
 }
 
-/// Reads the head at the front of bytes, and answers the bytes behind it.
-pub(crate) fn read_head(alloc: Global, bytes: &[u8]) -> Result<(Head, &[u8]), ReplyError>
-    ensures found { Finds (λ found. (head_parts found.0, found.1.now)) result (ReadsHead bytes.now) }
-    ensures shorter { IfOk result (λ found. length found.1.now < length bytes.now) }
+/// Where a head stands: the bytes up to and including their first empty line, and where the
+/// head's parts are in them.
+#[derive(Clone, Copy)]
+pub(crate) struct Place<'b> {
+    pub(crate) part: &'b [u8],
+    pub(crate) spans: ResponseSpans,
+}
+
+/// Finds the head at the front of bytes, and writes where its fields are.
+pub(crate) fn find_head<'b>(
+    bytes: &'b [u8],
+    fields: &mut [HeaderSpan],
+) -> Result<Place<'b>, ReplyError>
+    requires { length fields.old ≡ 100 }
+    ensures found { FindsHead bytes.now fields.new result }
+    ensures within { IfOk result (λ found. found.spans.len ≤ length bytes.now) }
+    ensures some { IfOk result (λ found. 0 < found.spans.len) }
 {
     let Some(end) = empty_line_end(bytes) else {
         return Err(ReplyError::Short);
     };
-    let mut spans = [EMPTY_HEADER_SPAN; MAX_HEADERS];
     let part = &bytes[..end];
-    let Some(found) = parse_part(part, &mut spans) else {
-        return Err(ReplyError::Bad);
-    };
-    let Ok(headers) = copy_fields(alloc, part, &spans[..found.headers]) else {
-        return Err(ReplyError::NoMemory);
-    };
-    let head = Head {
-        code: found.code,
+    match parse_part(part, fields) {
+        None => Err(ReplyError::Bad),
+        Some(spans) => Ok(Place { part, spans }),
+    }
+}
+
+/// The head that was found, its fields lent.
+pub(crate) fn lend_head<'b>(
+    alloc: Global,
+    found: &Place<'b>,
+    fields: &[HeaderSpan],
+) -> Result<Head<'b>, AllocError>
+    requires { HasPart found.now.part.now fields.now found.now.spans }
+    ensures { IfOk result (λ head. head_parts head ≡ spans_parts found.now.part.now fields.now found.now.spans) }
+{
+    let headers = lend_fields(alloc, found.part, &fields[..found.spans.headers])?;
+    Ok(Head {
+        version: version_of(found.spans.version),
+        code: found.spans.code,
         headers,
-    };
-    Ok((head, &bytes[found.len..]))
+    })
 }
 
 /// Parses a head at the front of bytes that end at their first empty line.
@@ -71,36 +100,42 @@ fn parse_part(part: &[u8], spans: &mut [HeaderSpan]) -> Option<ResponseSpans>
     }
 }
 
-/// Copies the fields that spans of bytes cover.
-fn copy_fields(
+/// The version by its minor number.
+fn version_of(minor: u8) -> Version
+    ensures { result ≡ version_of minor }
+{
+    if minor == 0 {
+        return Version::Http10;
+    }
+    Version::Http11
+}
+
+/// The fields that spans of bytes cover.
+fn lend_fields<'b>(
     alloc: Global,
-    bytes: &[u8],
+    bytes: &'b [u8],
     spans: &[HeaderSpan],
-) -> Result<Vec<(Text, Bytes)>, AllocError>
+) -> Result<Vec<Header<'b>>, AllocError>
     requires within { All (IsHeaderWithin (length bytes.now)) spans.now }
     requires texts { All (IsTextIn bytes.now) spans.now }
     ensures { IfOk result (λ fields. fields.items ≡ map (header_bytes bytes.now) spans.now) }
 {
-    let mut fields = Vec::new(alloc);
+    let mut fields = Vec::with_capacity(alloc, spans.len())?;
     for span in spans {
-        fields.push(copy_field(alloc, bytes, *span)?)?;
+        fields.push(lend_field(bytes, *span))?;
     }
     Ok(fields)
 }
 
-/// Copies one field.
-fn copy_field(alloc: Global, bytes: &[u8], span: HeaderSpan) -> Result<(Text, Bytes), AllocError>
+/// The field that spans of bytes cover.
+fn lend_field(bytes: &[u8], span: HeaderSpan) -> Header<'_>
     requires within { IsHeaderWithin (length bytes.now) span }
     requires text { IsTextIn bytes.now span }
-    ensures { IfOk result (λ field. field ≡ header_bytes bytes.now span) }
+    ensures { result ≡ header_bytes bytes.now span }
 {
     match std::str::from_utf8(span.name.of(bytes)) {
         Err(_) => unreachable!(),
-        Ok(name) => {
-            let name = Text::copy_of(alloc, name)?;
-            let value = Vec::from_slice(alloc, span.value.of(bytes))?;
-            Ok((name, Bytes::of(value)))
-        }
+        Ok(name) => Header::of(name, span.value.of(bytes)),
     }
 }
 
@@ -112,47 +147,55 @@ pub(crate) fn is_interim(code: u16) -> bool
 }
 
 /// How the head tells the end of the body.
-pub(crate) fn framing_of(alloc: Global, head: &Head) -> Result<Framing, AllocError>
-    ensures { IfOk result (λ framing. framing ≡ framing_of (head_parts head.now)) }
+pub(crate) fn framing_of(head: &Head) -> Framing
+    ensures { result ≡ framing_of (head_parts head.now) }
 {
     if head.code < 100 || head.code == 101 {
-        return Ok(Framing::Refused);
-    }
-    let codings = values_of(alloc, head.headers.as_slice(), "Content-Encoding")?;
-    if !are_texts(codings.as_slice()) {
-        return Ok(Framing::Refused);
-    }
-    if head.code == 204 || head.code == 304 {
-        return Ok(Framing::Nothing);
-    }
-    let transfer = values_of(alloc, head.headers.as_slice(), "Transfer-Encoding")?;
-    if transfer.is_empty() {
-        let lengths = values_of(alloc, head.headers.as_slice(), "Content-Length")?;
-        return Ok(length_framing(lengths.as_slice()));
-    }
-    Ok(transfer_framing(transfer.as_slice()))
-}
-
-/// The framing by the values of Transfer-Encoding, where there are some.
-fn transfer_framing(values: &[Bytes]) -> Framing
-    requires { 0 < length values.now }
-    ensures { (headers : List HeaderField) → result ≡ coded_framing values.now headers }
-{
-    if values.len() > 1 || !is_same(values[0].as_slice(), "chunked") {
         return Framing::Refused;
     }
-    Framing::Chunked
+    let headers = head.headers.as_slice();
+    if !are_texts(values_of(headers, "Content-Encoding")) {
+        return Framing::Refused;
+    }
+    if head.code == 204 || head.code == 304 {
+        return Framing::Nothing;
+    }
+    coded_framing(headers)
+}
+
+/// The framing by Transfer-Encoding, and by Content-Length without it.
+fn coded_framing(headers: &[Header]) -> Framing
+    ensures { result ≡ coded_framing (values_of (codes "Transfer-Encoding") headers.now) headers.now }
+{
+    let mut transfer = values_of(headers, "Transfer-Encoding");
+    match transfer.next() {
+        None => length_framing(values_of(headers, "Content-Length")),
+        Some(coding) => match transfer.next() {
+            Some(_) => Framing::Refused,
+            None => transfer_framing(coding),
+        },
+    }
+}
+
+/// The framing by the one value of Transfer-Encoding.
+fn transfer_framing(coding: &[u8]) -> Framing
+    ensures { (headers : List HeaderField) → result ≡ coded_framing (coding.now ∷ []) headers }
+{
+    if is_same(coding, "chunked") {
+        return Framing::Chunked;
+    }
+    Framing::Refused
 }
 
 /// The framing by the values of Content-Length.
-fn length_framing(values: &[Bytes]) -> Framing
-    ensures { result ≡ length_framing values.now }
+fn length_framing(values: ValuesOf) -> Framing
+    ensures { result ≡ length_framing values.entry }
 {
-    match values.first() {
+    let mut others = values;
+    match others.next() {
         None => Framing::ToEnd,
         Some(first) => {
-            let first = first.as_slice();
-            if are_equal(first, values) && is_length(first) {
+            if are_equal(first, others) && is_length(first) {
                 return Framing::Length(length_in(first));
             }
             Framing::Refused

@@ -2,47 +2,47 @@
 
 ghost use Rattle.std.specs.Prelude.{◌≡◌, ◌≤◌, ◌++◌, ℕ, List, length, IfOk, IsUtf8};
 ghost use Rattle.http_client.specs.Frames.{Found, got, short, bad};
-ghost use Rattle.http_client.specs.Heads.{coding_of, framing_of};
+ghost use Rattle.http_client.specs.Heads.{values_of, coding_of, framing_of};
 ghost use Rattle.http_client.specs.Parts.{head_parts, ReadsLastHead, IsCoded};
 ghost use Rattle.http_client.specs.Replies.{ReplyParts, parts_of, ReadsReply, ReadsBody, ReadsFinal, IsAnswer, Gives, Refuses, Finds};
 
+use crate::body::Body;
 use crate::chunks::chunked_body;
-use crate::fields::{first_coding, values_of};
-use crate::head::{Framing, Head, framing_of, is_interim, read_head};
+use crate::error::ReplyError;
+use crate::fields::{Header, ValuesOf, first_coding, values_of};
+use crate::head::{
+    Framing, Head, MAX_HEADERS, Version, find_head, framing_of, is_interim, lend_head,
+};
+use httparse::spans::EMPTY_HEADER_SPAN;
 use std::alloc::Global;
-use thiserror::Error;
-use values::{Bytes, Text};
+use values::Text;
 
-/// A reply to a request.
+/// A reply to a request. Its header fields are lent from the bytes that it was read from, and so
+/// is its body where it stands there in one piece.
 #[derive(Debug, Drop)]
-pub struct Reply {
+pub struct Reply<'a> {
+    pub version: Version,
     pub code: u16,
-    /// The header fields in order: names as sent, values without white space around them.
-    pub headers: Vec<(Text, Bytes)>,
-    pub body: Bytes,
+    /// The header fields in order.
+    pub headers: Vec<Header<'a>>,
+    pub body: Body<'a>,
     /// How many bytes the reply has, those of interim replies before it included.
     pub used: u64,
 }
 
-/// Why bytes have no reply at their front.
-#[derive(Debug, Drop, Error)]
-pub enum ReplyError {
-    /// The bytes end before the reply does.
-    #[error("reply is cut")]
-    Short,
-    /// No bytes that follow make these a reply.
-    #[error("bad reply")]
-    Bad,
-    /// The reply is whole, under a content coding other than `identity`: its name.
-    #[error("reply is encoded")]
-    Coded(Text),
-    #[error("out of memory")]
-    NoMemory,
+impl<'a> Reply<'a> {
+    /// The values of the header fields of a name, in any ASCII case (RFC 9110, section 5.1), one
+    /// for each field, in order.
+    pub fn values_of<'r>(&'r self, name: &'r str) -> ValuesOf<'r, 'a>
+        ensures { result ≡ values_of name.now self.now.headers.items }
+    {
+        values_of(self.headers.as_slice(), name)
+    }
 }
 
 /// Reads the reply at the front of the bytes; further bytes behind it are left alone. Where several
 /// errors hold, `Bad` comes before `Short`, and that before `Coded`.
-pub fn read_reply(alloc: Global, bytes: &[u8]) -> Result<Reply, ReplyError>
+pub fn read_reply<'a>(alloc: Global, bytes: &'a [u8]) -> Result<Reply<'a>, ReplyError>
     ensures answer { IsAnswer bytes.now result }
     ensures whole { (parts : ReplyParts) → ReadsReply bytes.now (got parts) → coding_of parts.headers ≡ None → Gives parts result }
     ensures coded { (parts : ReplyParts) (coding : List ℕ) → ReadsReply bytes.now (got parts) → coding_of parts.headers ≡ Some coding → Refuses (ReplyError.Coded coding) result }
@@ -53,7 +53,7 @@ pub fn read_reply(alloc: Global, bytes: &[u8]) -> Result<Reply, ReplyError>
 }
 
 /// Reads the reply at the front of the bytes, and refuses it under a content coding.
-fn find_reply(alloc: Global, bytes: &[u8]) -> Result<Reply, ReplyError>
+fn find_reply(alloc: Global, bytes: &[u8]) -> Result<Reply<'_>, ReplyError>
     ensures { IsAnswer bytes.now result }
 {
     match whole_reply(alloc, bytes) {
@@ -63,14 +63,11 @@ fn find_reply(alloc: Global, bytes: &[u8]) -> Result<Reply, ReplyError>
 }
 
 /// The reply, unless it is under a content coding.
-fn uncoded(alloc: Global, bytes: &[u8], reply: Reply) -> Result<Reply, ReplyError>
+fn uncoded<'a>(alloc: Global, bytes: &[u8], reply: Reply<'a>) -> Result<Reply<'a>, ReplyError>
     requires { ReadsReply bytes.now (got (parts_of reply)) }
     ensures { IsAnswer bytes.now result }
 {
-    let Ok(codings) = values_of(alloc, reply.headers.as_slice(), "Content-Encoding") else {
-        return Err(ReplyError::NoMemory);
-    };
-    match first_coding(codings.as_slice()) {
+    match first_coding(reply.values_of("Content-Encoding")) {
         None => Ok(reply),
         Some(coding) => Err(coded(alloc, coding)),
     }
@@ -91,7 +88,7 @@ fn coded(alloc: Global, coding: &[u8]) -> ReplyError
 }
 
 /// Reads the reply at the front of the bytes, whatever its content coding.
-fn whole_reply(alloc: Global, bytes: &[u8]) -> Result<Reply, ReplyError>
+fn whole_reply(alloc: Global, bytes: &[u8]) -> Result<Reply<'_>, ReplyError>
     ensures { Finds (λ reply. parts_of reply) result (ReadsReply bytes.now) }
 {
     match final_head(alloc, bytes) {
@@ -101,18 +98,24 @@ fn whole_reply(alloc: Global, bytes: &[u8]) -> Result<Reply, ReplyError>
 }
 
 /// Reads the body behind the head of a reply, where the reply and what follows have `total` bytes.
-fn reply_behind(alloc: Global, total: usize, head: Head, bytes: &[u8]) -> Result<Reply, ReplyError>
+fn reply_behind<'a>(
+    alloc: Global,
+    total: usize,
+    head: Head<'a>,
+    bytes: &'a [u8],
+) -> Result<Reply<'a>, ReplyError>
     requires { length bytes.now ≤ total }
-    ensures { Finds (λ reply. parts_of reply) result (ReadsFinal total (got (head_parts head, bytes.now))) }
+    ensures { Finds (λ reply. parts_of reply) result (ReadsFinal total (got (head_parts head.entry, bytes.now))) }
 {
-    match body_behind(alloc, &head, bytes) {
+    match read_body(alloc, framing_of(&head), bytes) {
         Err(error) => Err(error),
         Ok(found) => {
             let (body, behind) = found;
             Ok(Reply {
+                version: head.version,
                 code: head.code,
                 headers: head.headers,
-                body: Bytes::of(body),
+                body,
                 used: (total - behind.len()) as u64,
             })
         }
@@ -120,77 +123,53 @@ fn reply_behind(alloc: Global, total: usize, head: Head, bytes: &[u8]) -> Result
 }
 
 /// Reads the head of the reply, behind those of interim replies, and answers the bytes behind it.
-fn final_head(alloc: Global, bytes: &[u8]) -> Result<(Head, &[u8]), ReplyError>
+fn final_head(alloc: Global, bytes: &[u8]) -> Result<(Head<'_>, &[u8]), ReplyError>
     ensures found { Finds (λ found. (head_parts found.0, found.1.now)) result (ReadsLastHead bytes.now) }
     ensures shorter { IfOk result (λ found. length found.1.now ≤ length bytes.now) }
 {
+    let mut fields = [EMPTY_HEADER_SPAN; MAX_HEADERS];
     let mut rest = bytes;
     'heads: loop {
-        match read_head(alloc, rest) {
+        match find_head(rest, &mut fields) {
             Err(error) => return Err(error),
             Ok(found) => {
-                if !is_interim(found.0.code) {
-                    return Ok(found);
+                let behind = &rest[found.spans.len..];
+                if !is_interim(found.spans.code) {
+                    return match lend_head(alloc, &found, &fields) {
+                        Err(_) => Err(ReplyError::NoMemory),
+                        Ok(head) => Ok((head, behind)),
+                    };
                 }
-                rest = found.1;
+                rest = behind;
             }
         }
     }
 }
 
-/// Reads the body behind a head, and answers the bytes behind it.
-fn body_behind<'b>(
-    alloc: Global,
-    head: &Head,
-    bytes: &'b [u8],
-) -> Result<(Vec<u8>, &'b [u8]), ReplyError>
-    ensures found { Finds (λ found. (found.0.items, found.1.now)) result (ReadsBody (framing_of (head_parts head.now)) bytes.now) }
-    ensures shorter { IfOk result (λ found. length found.1.now ≤ length bytes.now) }
-{
-    let Ok(framing) = framing_of(alloc, head) else {
-        return Err(ReplyError::NoMemory);
-    };
-    read_body(alloc, framing, bytes)
-}
-
-/// Reads the body by its framing.
-fn read_body(alloc: Global, framing: Framing, bytes: &[u8]) -> Result<(Vec<u8>, &[u8]), ReplyError>
-    ensures found { Finds (λ found. (found.0.items, found.1.now)) result (ReadsBody framing bytes.now) }
+/// Reads the body by its framing, and answers the bytes behind it.
+fn read_body(alloc: Global, framing: Framing, bytes: &[u8]) -> Result<(Body<'_>, &[u8]), ReplyError>
+    ensures found { Finds (λ found. (found.0, found.1.now)) result (ReadsBody framing bytes.now) }
     ensures shorter { IfOk result (λ found. length found.1.now ≤ length bytes.now) }
 {
     match framing {
-        Framing::Nothing => Ok((Vec::new(alloc), bytes)),
+        Framing::Nothing => Ok((Body::lent(&[]), bytes)),
         Framing::Chunked => chunked_body(alloc, bytes),
-        Framing::Length(len) => body_of_length(alloc, len, bytes),
-        Framing::ToEnd => whole_body(alloc, bytes),
+        Framing::Length(len) => body_of_length(len, bytes),
+        Framing::ToEnd => Ok((Body::lent(bytes), &bytes[bytes.len()..])),
         Framing::Refused => Err(ReplyError::Bad),
     }
 }
 
 /// Takes a body of a length.
-fn body_of_length(alloc: Global, len: u64, bytes: &[u8]) -> Result<(Vec<u8>, &[u8]), ReplyError>
-    ensures found { Finds (λ found. (found.0.items, found.1.now)) result (ReadsBody (Framing.Length len) bytes.now) }
+fn body_of_length(len: u64, bytes: &[u8]) -> Result<(Body<'_>, &[u8]), ReplyError>
+    ensures found { Finds (λ found. (found.0, found.1.now)) result (ReadsBody (Framing.Length len) bytes.now) }
     ensures shorter { IfOk result (λ found. length found.1.now ≤ length bytes.now) }
 {
     if (bytes.len() as u64) < len {
         return Err(ReplyError::Short);
     }
     let (body, behind) = bytes.split_at(len as usize);
-    match Vec::from_slice(alloc, body) {
-        Err(_) => Err(ReplyError::NoMemory),
-        Ok(copy) => Ok((copy, behind)),
-    }
-}
-
-/// Takes all bytes as a body.
-fn whole_body(alloc: Global, bytes: &[u8]) -> Result<(Vec<u8>, &[u8]), ReplyError>
-    ensures found { Finds (λ found. (found.0.items, found.1.now)) result (ReadsBody Framing.ToEnd bytes.now) }
-    ensures shorter { IfOk result (λ found. length found.1.now ≤ length bytes.now) }
-{
-    match Vec::from_slice(alloc, bytes) {
-        Err(_) => Err(ReplyError::NoMemory),
-        Ok(copy) => Ok((copy, &bytes[bytes.len()..])),
-    }
+    Ok((Body::lent(body), behind))
 }
 
 /// Law: bytes are one thing as a reply. They have at most one reply at their front, and none where

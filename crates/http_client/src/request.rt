@@ -1,7 +1,7 @@
 //! Requests and their bytes.
 
-ghost use Rattle.std.specs.Prelude.{◌≡◌, ◌++◌, codes, length, string_bytes, IfOk, OnOk};
-ghost use Rattle.http_client.specs.Request.{method_name, start_line, field_line, host_of, base64_of, credentials, login_lines, extra_lines, length_lines, head_bytes, request_bytes};
+ghost use Rattle.std.specs.Prelude.{◌≡◌, ◌++◌, codes, string_bytes, option_map, IfOk, OnOk};
+ghost use Rattle.http_client.specs.Request.{method_name, sent_body, body_bytes, start_line, field_line, host_of, base64_of, credentials, login_lines, extra_lines, length_lines, head_bytes, request_bytes};
 
 use base64::engine::general_purpose::STANDARD;
 use std::alloc::{AllocError, Global};
@@ -11,15 +11,15 @@ use values::{Bytes, Text};
 const DEFAULT_PORT: u16 = 80;
 
 /// What a request asks the server to do (RFC 9110, section 9; RFC 4918, section 9; RFC 3253,
-/// section 3.6).
-#[derive(Clone, Copy, Debug, PartialEq, Eq)]
+/// section 3.6), with the body that it sends. A DELETE has none (RFC 9110, section 9.3.5).
+#[derive(Debug, Drop)]
 pub enum Method {
-    Propfind,
-    Proppatch,
-    Report,
-    Put,
+    Propfind(Bytes),
+    Proppatch(Bytes),
+    Report(Bytes),
+    Put(Bytes),
     Delete,
-    Mkcol,
+    Mkcol(Bytes),
 }
 
 /// A request to a server. Its texts are written as they are: whoever makes a request keeps line
@@ -37,21 +37,34 @@ pub struct Request {
     pub login: Option<(Text, Text)>,
     /// Further header fields, names and values, in the order in which they are sent.
     pub extra: Vec<(Text, Text)>,
-    pub body: Bytes,
 }
 
 impl Method {
     /// The method's name in a request line.
-    pub fn name(self) -> &'static str
-        ensures { result.now ≡ method_name self }
+    pub fn name(&self) -> &'static str
+        ensures { result.now ≡ method_name self.now }
     {
         match self {
-            Method::Propfind => "PROPFIND",
-            Method::Proppatch => "PROPPATCH",
-            Method::Report => "REPORT",
-            Method::Put => "PUT",
+            Method::Propfind(_) => "PROPFIND",
+            Method::Proppatch(_) => "PROPPATCH",
+            Method::Report(_) => "REPORT",
+            Method::Put(_) => "PUT",
             Method::Delete => "DELETE",
-            Method::Mkcol => "MKCOL",
+            Method::Mkcol(_) => "MKCOL",
+        }
+    }
+
+    /// The body that is sent, for a method that has one.
+    pub fn body(&self) -> Option<&[u8]>
+        ensures { option_map (λ body. body.now) result ≡ sent_body self.now }
+    {
+        match self {
+            Method::Propfind(body) => Some(body.as_slice()),
+            Method::Proppatch(body) => Some(body.as_slice()),
+            Method::Report(body) => Some(body.as_slice()),
+            Method::Put(body) => Some(body.as_slice()),
+            Method::Delete => None,
+            Method::Mkcol(body) => Some(body.as_slice()),
         }
     }
 }
@@ -64,7 +77,7 @@ impl Request {
         let mut out = Vec::new(alloc);
         put_head(alloc, &mut out, self)?;
         out.extend_from_slice(b"\r\n")?;
-        out.extend_from_slice(self.body.as_slice())?;
+        put_body(&mut out, &self.method)?;
         Ok(out)
     }
 }
@@ -73,14 +86,14 @@ impl Request {
 fn put_head(alloc: Global, out: &mut Vec<u8>, request: &Request) -> Result<(), AllocError>
     ensures { OnOk result (out.new.items ≡ out.old.items ++ head_bytes request.now) }
 {
-    put_start(out, request.method, &request.path)?;
+    put_start(out, &request.method, &request.path)?;
     put_host(alloc, out, &request.host, request.port)?;
     put_agent(out, &request.agent)?;
     put_field(out, "Accept-Encoding", "identity")?;
     put_field(out, "Connection", "close")?;
     put_login(alloc, out, &request.login)?;
     put_extra(out, &request.extra)?;
-    put_length(alloc, out, request.method, &request.body)
+    put_length(alloc, out, &request.method)
 }
 
 /// Writes one header field.
@@ -94,8 +107,8 @@ fn put_field(out: &mut Vec<u8>, name: &str, value: &str) -> Result<(), AllocErro
 }
 
 /// Writes the request line.
-fn put_start(out: &mut Vec<u8>, method: Method, path: &Text) -> Result<(), AllocError>
-    ensures { OnOk result (out.new.items ≡ out.old.items ++ start_line method path.now) }
+fn put_start(out: &mut Vec<u8>, method: &Method, path: &Text) -> Result<(), AllocError>
+    ensures { OnOk result (out.new.items ≡ out.old.items ++ start_line method.now path.now) }
 {
     out.extend_from_slice(method.name().as_bytes())?;
     out.extend_from_slice(b" ")?;
@@ -169,20 +182,23 @@ fn put_extra(out: &mut Vec<u8>, fields: &Vec<(Text, Text)>) -> Result<(), AllocE
 }
 
 /// Writes the length of the body, for a method that has one.
-fn put_length(
-    alloc: Global,
-    out: &mut Vec<u8>,
-    method: Method,
-    body: &Bytes,
-) -> Result<(), AllocError>
-    ensures { OnOk result (out.new.items ≡ out.old.items ++ length_lines method (length body.now)) }
+fn put_length(alloc: Global, out: &mut Vec<u8>, method: &Method) -> Result<(), AllocError>
+    ensures { OnOk result (out.new.items ≡ out.old.items ++ length_lines (sent_body method.now)) }
 {
-    match method {
-        Method::Delete => Ok(()),
-        Method::Propfind | Method::Proppatch | Method::Report | Method::Put | Method::Mkcol => {
-            let size = body.as_slice().len();
-            let value = format!(in alloc; "{size}")?;
-            put_field(out, "Content-Length", value.as_str())
-        }
+    let Some(body) = method.body() else {
+        return Ok(());
+    };
+    let size = body.len();
+    let value = format!(in alloc; "{size}")?;
+    put_field(out, "Content-Length", value.as_str())
+}
+
+/// Writes the body, for a method that has one.
+fn put_body(out: &mut Vec<u8>, method: &Method) -> Result<(), AllocError>
+    ensures { OnOk result (out.new.items ≡ out.old.items ++ body_bytes (sent_body method.now)) }
+{
+    match method.body() {
+        None => Ok(()),
+        Some(body) => out.extend_from_slice(body),
     }
 }

@@ -1,23 +1,40 @@
-//! Requests and replies by hand. The lengths and answers come from a reader in another language.
+//! Requests and replies by hand. The lengths, answers and JSON strings come from programs in
+//! another language.
 
-use crate::{Method, ReplyError, Request, read_reply};
+use crate::body::Body;
+use crate::{Method, Reply, ReplyError, Request, read_reply};
 use std::alloc::{AllocError, Global};
+use std::borrow::CowSlice;
+use std::test::Fail;
 use values::{Bytes, Text};
 
-/// What is read of bytes: a code, a body and a length, or why there is none.
+/// What is read of bytes: a code, a body that is lent or made, and a length, or why there is none.
 #[derive(Clone, Copy)]
 enum Told {
     Whole(u16, &'static [u8], u64),
+    Made(u16, &'static [u8], u64),
     Short,
     Bad,
     Coded(&'static str),
 }
 
-const REPLIES: [(&[u8], Told); 41] = [
+const REPLIES: [(&[u8], Told); 44] = [
     // A chunked body.
     (
         b"HTTP/1.1 200 OK\r\nTransfer-Encoding: chunked\r\n\r\n3\r\nabc\r\n0\r\n\r\n",
         Told::Whole(200, b"abc", 60),
+    ),
+    (
+        b"HTTP/1.1 200 OK\r\nTransfer-Encoding: chunked\r\n\r\n3\r\nabc\r\n0\r\n\r",
+        Told::Short,
+    ),
+    (
+        b"HTTP/1.1 200 OK\r\nTransfer-Encoding: chunked\r\n\r\n3\r\nabc\r\n1\r\nd\r\n2\r\nef\r\n0\r\n\r\n",
+        Told::Made(200, b"abcdef", 73),
+    ),
+    (
+        b"HTTP/1.1 200 OK\r\nTransfer-Encoding: chunked\r\n\r\n0\r\n\r\n",
+        Told::Whole(200, b"", 52),
     ),
     // No head.
     (b"SMTP", Told::Short),
@@ -166,11 +183,22 @@ const REPLIES: [(&[u8], Told); 41] = [
     ),
 ];
 
+fn is_lent(body: &Body) -> bool {
+    matches!(&body.content, CowSlice::Borrowed(_))
+}
+
+fn is_whole(reply: &Reply, code: u16, body: &[u8], used: u64) -> bool {
+    reply.code == code && reply.body.as_slice() == body && reply.used == used
+}
+
 fn is_told(alloc: Global, bytes: &[u8], told: Told) -> bool {
     match read_reply(alloc, bytes) {
         Ok(reply) => match told {
             Told::Whole(code, body, used) => {
-                reply.code == code && reply.body.as_slice() == body && reply.used == used
+                is_lent(&reply.body) && is_whole(&reply, code, body, used)
+            }
+            Told::Made(code, body, used) => {
+                !is_lent(&reply.body) && is_whole(&reply, code, body, used)
             }
             Told::Short | Told::Bad | Told::Coded(_) => false,
         },
@@ -178,7 +206,7 @@ fn is_told(alloc: Global, bytes: &[u8], told: Told) -> bool {
         Err(ReplyError::Bad) => matches!(told, Told::Bad),
         Err(ReplyError::Coded(coding)) => match told {
             Told::Coded(name) => coding.as_str() == name,
-            Told::Whole(_, _, _) | Told::Short | Told::Bad => false,
+            Told::Whole(_, _, _) | Told::Made(_, _, _) | Told::Short | Told::Bad => false,
         },
         Err(ReplyError::NoMemory) => false,
     }
@@ -192,29 +220,38 @@ fn replies_are_told(rt: HostRuntime) {
 }
 
 #[test]
-fn each_prefix_is_short(rt: HostRuntime) {
-    let bytes = REPLIES[0].0;
-    for len in 0..bytes.len() {
-        assert!(rt; is_told(rt.alloc(), &bytes[..len], Told::Short), "at {len}");
+fn values_of_a_name_in_any_case(rt: HostRuntime) -> Result<(), Fail> {
+    let bytes =
+        b"HTTP/1.1 204 Empty\r\nETag: \"1\"\r\nDate: x\r\netag:\r\nETAG:  \"2\" \r\nE-Tag: y\r\n\r\n";
+    let reply = read_reply(rt.alloc(), bytes)?;
+    let mut told = Vec::new(rt.alloc());
+    for value in reply.values_of("eTag") {
+        told.extend_from_slice(value)?;
+        told.push(b'|')?;
     }
+    assert_eq!(rt; told.as_slice(), b"\"1\"||\"2\"|".as_slice());
+    Ok(())
 }
 
-/// A head of that many fields.
-fn with_fields(alloc: Global, count: usize) -> Result<Vec<u8>, AllocError> {
-    let mut bytes = Vec::from_slice(alloc, b"HTTP/1.1 204 Empty\r\n")?;
-    for _ in 0..count {
-        bytes.extend_from_slice(b"A: b\r\n")?;
-    }
-    bytes.extend_from_slice(b"\r\n")?;
-    Ok(bytes)
-}
+/// Codings, and what the refusal of a reply under each displays.
+const REFUSALS: [(&str, &str); 4] = [
+    ("gzip", "reply is encoded as \"gzip\""),
+    ("", "reply is encoded as \"\""),
+    ("a\"b\\c/\t", "reply is encoded as \"a\\\"b\\\\c/\\t\""),
+    (
+        "\u{0}x\u{1f}\u{7f}\u{e9}\u{8}\u{c}\n\r",
+        "reply is encoded as \"\\u0000x\\u001f\u{7f}\u{e9}\\b\\f\\n\\r\"",
+    ),
+];
 
 #[test]
-fn at_most_a_hundred_fields(rt: HostRuntime) {
-    let most = with_fields(rt.alloc(), 100).expect(&rt, "memory");
-    assert!(rt; is_told(rt.alloc(), most.as_slice(), Told::Whole(204, b"", 622)));
-    let over = with_fields(rt.alloc(), 101).expect(&rt, "memory");
-    assert!(rt; is_told(rt.alloc(), over.as_slice(), Told::Bad));
+fn refusals_are_displayed(rt: HostRuntime) -> Result<(), Fail> {
+    for (coding, text) in REFUSALS {
+        let refusal = ReplyError::Coded(Text::copy_of(rt.alloc(), coding)?);
+        let told = refusal.to_string(rt.alloc())?;
+        assert_eq!(rt; told.as_str(), text);
+    }
+    Ok(())
 }
 
 fn request(alloc: Global, method: Method, port: u16) -> Result<Request, AllocError> {
@@ -235,31 +272,25 @@ fn request(alloc: Global, method: Method, port: u16) -> Result<Request, AllocErr
         agent: Text::copy_of(alloc, "vdirsyncer")?,
         login: Some((Text::copy_of(alloc, "bob")?, Text::copy_of(alloc, "asdf")?)),
         extra,
-        body: Bytes::of(Vec::from_slice(alloc, b"BEGIN:VCARD\r\nEND:VCARD\r\n")?),
     })
 }
 
 #[test]
-fn a_put_with_a_login(rt: HostRuntime) {
-    let put = request(rt.alloc(), Method::Put, 8008).expect(&rt, "memory");
-    let bytes = put.bytes(rt.alloc()).expect(&rt, "memory");
+fn requests_are_written(rt: HostRuntime) -> Result<(), Fail> {
+    let card = Bytes::of(Vec::from_slice(rt.alloc(), b"BEGIN:VCARD\r\nEND:VCARD\r\n")?);
+    let put = request(rt.alloc(), Method::Put(card), 8008)?;
     assert_eq!(rt;
-        bytes.as_slice(),
+        put.bytes(rt.alloc())?.as_slice(),
         b"PUT /c/x.vcf HTTP/1.1\r\nHost: h.example:8008\r\nUser-Agent: vdirsyncer\r\nAccept-Encoding: identity\r\nConnection: close\r\nAuthorization: Basic Ym9iOmFzZGY=\r\nContent-Type: text/vcard; charset=utf-8\r\nIf-None-Match: *\r\nContent-Length: 24\r\n\r\nBEGIN:VCARD\r\nEND:VCARD\r\n".as_slice()
     );
-}
-
-#[test]
-fn a_delete_has_no_length(rt: HostRuntime) {
     let delete = Request {
         login: None,
         extra: Vec::new(rt.alloc()),
-        body: Bytes::of(Vec::new(rt.alloc())),
-        ..request(rt.alloc(), Method::Delete, 80).expect(&rt, "memory")
+        ..request(rt.alloc(), Method::Delete, 80)?
     };
-    let bytes = delete.bytes(rt.alloc()).expect(&rt, "memory");
     assert_eq!(rt;
-        bytes.as_slice(),
+        delete.bytes(rt.alloc())?.as_slice(),
         b"DELETE /c/x.vcf HTTP/1.1\r\nHost: h.example\r\nUser-Agent: vdirsyncer\r\nAccept-Encoding: identity\r\nConnection: close\r\n\r\n".as_slice()
     );
+    Ok(())
 }

@@ -33,6 +33,6 @@ chunks-preserved c =
     let less : length c.in-Chunk.behind.now < length c.chunks.rest.now = rw c.in-Chunk.is at c.in-Ok.ensures.shorter in (
       so_far.0 ++ c.in-Chunk.data.now ∷ [],
       Leads-more ChunkStep c.args.bytes.now c.chunks.rest.now c.in-Chunk.behind.now so_far.0 c.in-Chunk.data.now so_far.1 step,
-      c.in-Ok-extend_from_slice.ensures.items ∙ ap (λ body. body ++ c.in-Chunk.data.now) so_far.2 ∙ sym (concat-push so_far.0 c.in-Chunk.data.now),
+      c.in-Ok-with_piece.ensures ∙ ap (λ body. body ++ c.in-Chunk.data.now) so_far.2 ∙ sym (concat-push so_far.0 c.in-Chunk.data.now),
       omega (arith, so_far.3),
     )

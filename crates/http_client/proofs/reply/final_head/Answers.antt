@@ -1,10 +1,10 @@
-use Rattle.std.proofs.Common.{◌≡◌, refl, ◌<◌, ◌++◌, ◌∷◌, [], true, false, length, arith, rules}
-use Rattle.http_client.specs.Frames.{got, short, bad}
+use Rattle.std.proofs.Common.{◌≡◌, refl, ◌++◌, ◌∷◌, [], true, false, arith, rules}
+use Rattle.http_client.specs.Frames.{short, bad}
 use Rattle.http_client.specs.Heads.{is_interim, ReadsHead, HeadStep}
-use Rattle.http_client.specs.Parts.{head_parts, ReadsLastHead}
-use Rattle.http_client.proofs.Walks.{Leads-more, Leads-end}
+use Rattle.http_client.specs.Parts.{head_parts, spans_parts, ReadsLastHead}
+use Rattle.http_client.proofs.Walks.{Leads-end}
 use Rattle.http_client.proofs.Passing.{OnRefusal-weaker}
-use Rattle.http_client.proofs.Rests.{head_ends, head_goes}
+use Rattle.http_client.proofs.Rests.{head_passed, head_last, behind_within}
 use Rattle.http_client.proofs.reply.final_head.Goals as goal
 
 pub returns-in-Err-clause-found : goal.returns-in-Err-clause-found
@@ -16,22 +16,20 @@ returns-in-Err-clause-found c =
     (λ h. (so_far.0, Leads-end HeadStep c.args.bytes.now c.heads.rest.now so_far.0 bad so_far.1 (bad, h, refl)))
     c.in-Err.ensures.found
 
-pub returns-then-not-is_interim-clause-found : goal.returns-then-not-is_interim-clause-found
-returns-then-not-is_interim-clause-found c =
+pub returns-in-Ok-lend_head-clause-found : goal.returns-in-Ok-lend_head-clause-found
+returns-in-Ok-lend_head-clause-found c =
     let so_far = c.heads.invariant in
-    let final : is_interim c.in-Ok.found.0.code ≡ false = first_of (cc, search rules, grind arith) in (
-      so_far.0,
-      Leads-end HeadStep c.args.bytes.now c.heads.rest.now so_far.0 (got (head_parts c.in-Ok.found.0, c.in-Ok.found.1.now)) so_far.1
-          (head_ends c.heads.rest.now (head_parts c.in-Ok.found.0, c.in-Ok.found.1.now) final c.in-Ok.ensures.found),
-    )
+    let last : is_interim c.in-Ok.found.spans.code ≡ false = first_of (cc, search rules, grind arith) in
+    head_last c.args.bytes.now c.heads.rest.now c.find_head.new.fields c.in-Ok.found.part.now c.in-Ok.found.spans
+    (head_parts c.in-Ok-lend_head.head) so_far.0 so_far.1 c.in-Ok.ensures.found last c.in-Ok-lend_head.ensures
 
 pub heads-preserved : goal.heads-preserved
 heads-preserved c =
     let so_far = c.heads.invariant in
-    let interim : is_interim c.in-Ok.found.0.code ≡ true = first_of (cc, search rules, grind arith) in
-    let less : length c.in-Ok.found.1.now < length c.heads.rest.now = c.in-Ok.ensures.shorter in (
-      so_far.0 ++ head_parts c.in-Ok.found.0 ∷ [],
-      Leads-more HeadStep c.args.bytes.now c.heads.rest.now c.in-Ok.found.1.now so_far.0 (head_parts c.in-Ok.found.0) so_far.1
-          (head_goes c.heads.rest.now (head_parts c.in-Ok.found.0, c.in-Ok.found.1.now) interim c.in-Ok.ensures.found),
-      omega (arith, so_far.2),
+    let passed : is_interim c.in-Ok.found.spans.code ≡ true = first_of (cc, search rules, grind arith) in (
+      so_far.0 ++ spans_parts c.in-Ok.found.part.now c.find_head.new.fields c.in-Ok.found.spans ∷ [],
+      head_passed c.args.bytes.now c.heads.rest.now c.find_head.new.fields c.in-Ok.found.part.now c.in-Ok.found.spans so_far.0 so_far.1
+          c.in-Ok.ensures.found passed,
+      behind_within c.args.bytes.now c.heads.rest.now c.in-Ok.found.spans.len c.in-Ok.ensures.within so_far.2,
+      c.in-Ok.ensures.found.room,
     )

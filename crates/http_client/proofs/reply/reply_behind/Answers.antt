@@ -12,7 +12,7 @@ returns-in-Err c =
     (ReadsBody (framing_of (head_parts c.args.head)) c.args.bytes.now short) (ReadsBody (framing_of (head_parts c.args.head)) c.args.bytes.now bad)
     (ReadsFinal c.args.total (got (head_parts c.args.head, c.args.bytes.now)) short) (ReadsFinal c.args.total (got (head_parts c.args.head, c.args.bytes.now)) bad)
     (λ h. (short, h, refl)) (λ h. (bad, h, refl))
-    c.in-Err.ensures.found
+    (rw c.framing_of.ensures at c.in-Err.ensures.found)
 
-pub returns-in-Ok : goal.returns-in-Ok
-returns-in-Ok c = (got (c.in-Ok.found.0.items, c.in-Ok.found.1.now), c.in-Ok.ensures.found, first_of (cc, search rules, grind arith))
+pub returns : goal.returns
+returns c = (got (c.in-Ok.found.0, c.in-Ok.found.1.now), rw c.framing_of.ensures at c.in-Ok.ensures.found, first_of (cc, search rules, grind arith))
