@@ -1,1 +1,7 @@
+pub mod JobSteps
+pub mod Merging
+pub mod Placing
+pub mod Plans
+pub mod Stories
 pub mod Table
+pub mod Verdicts

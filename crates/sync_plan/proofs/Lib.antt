@@ -1,0 +1,10 @@
+pub mod Cleans
+pub mod Keeping
+pub mod Emptied
+pub mod Facts
+pub mod Finds
+pub mod Holds
+pub mod Indexes
+pub mod Merges
+pub mod Overwrites
+pub mod Rising
