@@ -1,0 +1,10 @@
+pub mod Answers
+pub mod Fields
+pub mod Flaws
+pub mod Grouping
+pub mod Lines
+pub mod Logical
+pub mod Repeats
+pub mod Sections
+pub mod Seen
+pub mod Settings

@@ -1,0 +1,17 @@
+//! The configuration: its text, read into pairs and storages, and what a storage's parameters mean.
+#![tactic(auto)]
+
+mod error;
+mod fields;
+mod flaws;
+mod key_lines;
+mod kinds;
+mod lines;
+mod logical;
+mod sections;
+mod setting;
+mod storage_kind;
+mod titles;
+
+pub use error::ConfigError;
+pub use storage_kind::StorageKind;
