@@ -1,5 +1,6 @@
 //! Names of status folders and of files.
 
+use item_text::is_plain;
 use status_keeper::status_name;
 use std::alloc::Global;
 use std::test::Fail;
@@ -30,5 +31,7 @@ fn status_folders_and_stems(rt: HostRuntime) -> Result<(), Fail> {
     assert_eq!(rt; status_name(alloc, None)?.as_str(), ".null");
     assert_eq!(rt; file_stem(alloc, "a/b")?.as_str(), HASHED);
     assert_eq!(rt; file_stem(alloc, "x")?.as_str(), "x");
+    assert!(rt; is_plain("x"));
+    assert!(rt; !is_plain("a/b"));
     Ok(())
 }

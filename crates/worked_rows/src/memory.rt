@@ -17,11 +17,7 @@ use vdirsyncer_cli::{Env, run_words};
 /// How many bytes of output there is room for where a row doesn't say it.
 const ROOM: u64 = 65_536;
 
-fn folder_of(
-    alloc: Global,
-    held: &Option<Held>,
-    plan: FaultPlan,
-) -> Result<MemFolder, RowError> {
+fn folder_of(alloc: Global, held: &Option<Held>, plan: FaultPlan) -> Result<MemFolder, RowError> {
     let Some(held) = held else {
         let absent = MemFolder::new(alloc, false, Vec::new(alloc), Vec::new(alloc), plan)?;
         return Ok(absent);

@@ -60,9 +60,10 @@ pub fn below(alloc: Global, root: &str, path: &str) -> Result<String, AllocError
 /// The places of each row: the configuration, both sides there and empty, no status.
 pub fn usual_places(alloc: Global, texts: &Texts, root: &str) -> Result<Places, RowError> {
     let mut settings = Held::nothing(alloc);
-    settings
-        .files
-        .insert(String::from_str(alloc, "config")?, texts.bytes("CONFIG", root)?)?;
+    settings.files.insert(
+        String::from_str(alloc, "config")?,
+        texts.bytes("CONFIG", root)?,
+    )?;
     let mut places = BTreeMap::new(alloc);
     places.insert(below(alloc, root, "/a")?, Some(Held::nothing(alloc)))?;
     places.insert(below(alloc, root, "/b")?, Some(Held::nothing(alloc)))?;

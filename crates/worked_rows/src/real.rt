@@ -24,7 +24,11 @@ fn inside(alloc: Global, path: &str, name: &str) -> io::Result<String> {
 fn make_folder(rt: &HostRuntime, path: &str, held: &Held) -> io::Result<()> {
     fs::create_dir_all(rt, path)?;
     for (name, bytes) in held.files.iter() {
-        fs::write(rt, inside(rt.alloc(), path, name.as_str())?.as_str(), bytes.as_slice())?;
+        fs::write(
+            rt,
+            inside(rt.alloc(), path, name.as_str())?.as_str(),
+            bytes.as_slice(),
+        )?;
     }
     for name in held.folders.iter() {
         fs::create_dir(rt, inside(rt.alloc(), path, name.as_str())?.as_str())?;

@@ -158,7 +158,11 @@ impl Ground<'_> {
         }
     }
 
-    fn plans(self, form: &RunForm, places: &Places) -> Result<BTreeMap<String, FaultPlan>, RowError> {
+    fn plans(
+        self,
+        form: &RunForm,
+        places: &Places,
+    ) -> Result<BTreeMap<String, FaultPlan>, RowError> {
         let mut plans = BTreeMap::new(self.alloc);
         for (path, plan) in members(&form.plans) {
             let path = self.known(path.as_str(), places)?;

@@ -3,12 +3,11 @@
 use crate::compare::{Difference, differences};
 use crate::error::RowError;
 use crate::form::{RowForm, Verdict};
-use crate::memory;
 use crate::places::Places;
 use crate::ran::Ran;
-use crate::real;
 use crate::rows::{Ground, Row, Run, Wanted};
 use crate::texts::Texts;
+use crate::{memory, real};
 
 /// Where rows are run.
 #[derive(Clone, Copy, Drop)]
@@ -42,9 +41,8 @@ pub struct Runner<'a> {
 
 /// Whether only devices in memory can run a row, or show that it comes out as it must.
 fn wants_memory(row: &Row, verdict: Verdict) -> bool {
-    row.runs
-        .iter()
-        .any(|run| run.wants_memory() || (verdict == Verdict::NotOk && run.wanted.is_of_trails()))
+    row.runs.iter().any(|run| run.wants_memory()
+        || (verdict == Verdict::NotOk && run.wanted.is_of_trails()))
 }
 
 impl Runner<'_> {

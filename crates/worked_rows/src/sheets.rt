@@ -5,8 +5,7 @@ use crate::form::{RowForm, SheetForm, Verdict};
 use crate::rows::Ground;
 use crate::texts::Texts;
 use std::alloc::{AllocError, Global};
-use std::fmt;
-use std::{fs, io};
+use std::{fmt, fs, io};
 
 /// The file of the texts that all files share. It is read first.
 const SHARED: &str = "texts.json";
