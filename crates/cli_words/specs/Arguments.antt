@@ -1,5 +1,5 @@
 -- What the words behind a command say (this project's own).
-use Rattle.std.specs.Prelude.{◌≡◌, ◌&&◌, ◌||◌, ◌++◌, ℕ, Bool, true, false, List, [], ◌∷◌, if◌then◌else◌, Option, Some, None, is_some, option_map, option_and_then, map}
+use Rattle.std.specs.Prelude.{◌&&◌, ◌||◌, ◌++◌, ℕ, Bool, true, false, List, [], ◌∷◌, if◌then◌else◌, Option, Some, None, is_some, option_map, option_and_then, map}
 use Rattle.cli_words.specs.declared.arguments.Arguments.{Arguments}
 use Rattle.cli_words.specs.declared.options.Command.{Command}
 use Rattle.cli_words.specs.declared.options.Piece.{Piece}

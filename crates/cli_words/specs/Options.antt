@@ -1,5 +1,5 @@
 -- What one word of the command line is: a command, an option, its value, or another word (this project's own).
-use Rattle.std.specs.Prelude.{◌==◌, ◌&&◌, ◌||◌, ◌+◌, ◌-◌, ◌*◌, ℕ, Bool, true, false, List, [], ◌∷◌, length, if◌then◌else◌, nat_lt, nat_le, codes, slice_index, Option, Some, None, option_map, option_and_then}
+use Rattle.std.specs.Prelude.{◌==◌, ◌&&◌, ◌||◌, ◌+◌, ◌-◌, ◌*◌, ℕ, Bool, true, false, List, [], ◌∷◌, length, if◌then◌else◌, nat_lt, nat_le, codes, slice_index, Option, Some, None, option_and_then}
 use Rattle.std.specs.List.{list_all, position_or_len, before_first, after_first}
 use Rattle.std.specs.Option.{option_map_or}
 use Rattle.std.specs.Char.{is_ascii_digit}

@@ -1,6 +1,6 @@
 //! The words behind a command.
 
-ghost use Rattle.std.specs.Prelude.{◌≡◌, ◌≤◌, ◌++◌, [], ◌∷◌, true, false, length, map, None, Some, is_some, MatchResult, IfOk, IfErr, OnOk};
+ghost use Rattle.std.specs.Prelude.{◌≡◌, ◌≤◌, ◌++◌, [], ◌∷◌, true, false, length, map, None, Some, is_some, IfOk, IfErr, OnOk};
 ghost use Rattle.cli_words.specs.Options.{name_in, workers_of};
 ghost use Rattle.cli_words.specs.Arguments.{arguments_of, arguments_value, no_arguments, said_with, numbered_with, IfWrong};
 ghost use Rattle.cli_words.specs.declared.options.Command.{Command};

@@ -1,6 +1,6 @@
 //! What one word is: a command's name, an option, a value, or another word.
 
-ghost use Rattle.std.specs.Prelude.{◌≡◌, ◌<◌, ◌≤◌, true, false, length, MatchOption, IfOk, nat_lt};
+ghost use Rattle.std.specs.Prelude.{◌≡◌, ◌<◌, true, false, MatchOption, IfOk};
 ghost use Rattle.std.specs.List.{before_first, after_first};
 ghost use Rattle.std.specs.Option.{option_copied};
 ghost use Rattle.cli_words.specs.Options.{is_equals, is_slash, stands_in, value_of, workers_of, is_level, is_same_level, is_option, command_of, on_or_off, switch_in, workers_piece, sync_option, other_option, option_in, piece_of, cut_name, name_in};

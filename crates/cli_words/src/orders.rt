@@ -1,7 +1,7 @@
 //! The order that a command and its words make.
 
-ghost use Rattle.std.specs.Prelude.{◌≡◌, None, Some, map, unwrap_or, MatchOption, IfOk, IfErr};
-ghost use Rattle.cli_words.specs.Arguments.{arguments_of, arguments_value, IfWrong};
+ghost use Rattle.std.specs.Prelude.{◌≡◌, None, Some, map, unwrap_or, IfOk, IfErr};
+ghost use Rattle.cli_words.specs.Arguments.{arguments_value, IfWrong};
 ghost use Rattle.cli_words.specs.Options.{command_of};
 ghost use Rattle.cli_words.specs.Words.{workers_in, only, first_of, order_in, order_behind, order_of, order_value};
 

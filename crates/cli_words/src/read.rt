@@ -1,10 +1,9 @@
 //! The words, whole.
 
-ghost use Rattle.std.specs.Prelude.{◌≡◌, None, Some, option_map, IfOk, IfErr};
+ghost use Rattle.std.specs.Prelude.{◌≡◌, None, Some, IfOk, IfErr};
 ghost use Rattle.std.specs.Option.{option_copied};
 ghost use Rattle.cli_words.specs.Arguments.{IfWrong};
-ghost use Rattle.cli_words.specs.Front.{FrontValue};
-ghost use Rattle.cli_words.specs.Words.{is_help, ordered, meaning_of, words_value};
+ghost use Rattle.cli_words.specs.Words.{is_help, meaning_of, words_value};
 
 use crate::front::read_front;
 use crate::orders::order_of;

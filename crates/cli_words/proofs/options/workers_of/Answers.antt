@@ -1,4 +1,4 @@
-use Rattle.std.proofs.Common.{◌≡◌, ◌<◌, ◌+◌, ◌-◌, ◌*◌, ℕ, List, None, drop, get_or, sym, ap, ◌∙◌, arith}
+use Rattle.std.proofs.Common.{◌≡◌, ◌<◌, ◌+◌, ◌-◌, ◌*◌, ℕ, List, drop, get_or, sym, ap, ◌∙◌, arith}
 use Rattle.cli_words.specs.Options.{workers_from, workers_of}
 use Rattle.cli_words.proofs.Numbers.{workers_from-at_digit, workers_from-at_other, workers_from-too_many, workers_from-past, workers_of-digits}
 use Rattle.cli_words.proofs.options.workers_of.Goals as goal

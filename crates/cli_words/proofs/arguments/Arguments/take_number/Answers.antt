@@ -1,4 +1,4 @@
-use Rattle.std.proofs.Common.{◌≡◌, ◌-◌, ◌∷◌, List, [], ℕ, length, take, drop, Some, None, sym, ap, ◌∙◌}
+use Rattle.std.proofs.Common.{◌≡◌, ◌-◌, List, ℕ, length, take, drop, Some, None, sym, ap, ◌∙◌}
 use Rattle.cli_words.specs.declared.arguments.Arguments.{Arguments}
 use Rattle.cli_words.specs.Options.{workers_of}
 use Rattle.cli_words.specs.Arguments.{arguments_value, said_with, numbered_with}
