@@ -1,5 +1,6 @@
 pub mod Cuts
 pub mod Differing
+pub mod Documents
 pub mod Escapes
 pub mod Fronts
 pub mod InTags

@@ -8,7 +8,7 @@ use Rattle.multistatus.specs.declared.reader.Level.{Level}
 use Rattle.multistatus.specs.Steps.{◌>>=◌}
 use Rattle.multistatus.specs.Elements.{Content, nothing, blanks, text, element, is_within}
 use Rattle.multistatus.specs.Namespaces.{Opening, opening_of, Tree, end, chars, branch, resolved}
-use Rattle.multistatus.specs.Multistatus.{most_nested}
+use Rattle.multistatus.specs.Documents.{most_nested}
 use Rattle.multistatus.specs.Reader.{begun, noted, with_text, joined, scope_of, with_frame, level_of}
 use Rattle.multistatus.proofs.Runs.{taken, opened_by, bind_same, bind_assoc}
 

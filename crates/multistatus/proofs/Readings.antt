@@ -12,7 +12,8 @@ use Rattle.multistatus.specs.Steps.{◌>>=◌, Fails, Gives}
 use Rattle.multistatus.specs.Tokens.{token_at, AreTokens, without_mark, without_declaration}
 use Rattle.multistatus.specs.Elements.{Content, nothing, element, Event, events_of_token, root_of, is_within}
 use Rattle.multistatus.specs.Namespaces.{Tree, resolved, first_scope}
-use Rattle.multistatus.specs.Multistatus.{most_nested, rows_of_root, HasRows, IsAnswer}
+use Rattle.multistatus.specs.Documents.{most_nested, HasTree}
+use Rattle.multistatus.specs.Multistatus.{rows_of_root, HasRows, IsAnswer}
 use Rattle.multistatus.specs.Reader.{State, run, step, run_token, first_state, rows_outside, rows_at_end, RunsTo}
 use Rattle.multistatus.proofs.Runs.{at, run-nil, shaped, bind_some, some_same, chosen}
 use Rattle.multistatus.proofs.Whole.{rows_by, run-document}
@@ -21,13 +22,13 @@ abbrev by_root : Tag × Content → Option (List Response)
 by_root root = rows_by root.0 root.1
 
 -- what has rows runs to them
-pub runs_of : (bytes : List ℕ) (rows : List Response) (h : HasRows bytes rows) → RunsTo h.body rows
-runs_of bytes rows h = (
-  h.tokens,
-  h.are_tokens,
-  ap (λ (es : List Event). run first_state es >>= rows_at_end) h.content_is ∙ run-document h.content ∙ ap (λ (o : Option (Tag × Content)). o >>= by_root) h.root_is
-      ∙ ap (λ (b : Bool). cond b (resolved first_scope (element h.tag h.inside nothing) >>= rows_of_root) None) h.within
-      ∙ ap (λ (o : Option Tree). o >>= rows_of_root) h.tree_is ∙ h.rows_are,
+pub runs_of : (bytes : List ℕ) (rows : List Response) (h : HasRows bytes rows) → RunsTo h.has_tree.body rows
+runs_of bytes rows h = let t = h.has_tree in (
+  t.tokens,
+  t.are_tokens,
+  ap (λ (es : List Event). run first_state es >>= rows_at_end) t.content_is ∙ run-document t.content ∙ ap (λ (o : Option (Tag × Content)). o >>= by_root) t.root_is
+      ∙ ap (λ (b : Bool). cond b (resolved first_scope (element t.tag t.inside nothing) >>= rows_of_root) None) t.within
+      ∙ ap (λ (o : Option Tree). o >>= rows_of_root) t.tree_is ∙ h.rows_are,
 )
 
 outside : (levels : List Level) (rows : Option (List Response)) (found : List Response) → rows_outside levels rows ≡ Some found → levels ≡ []
@@ -46,24 +47,26 @@ rows_from bytes body rows utf8 body_is runs =
     let nested = chosen (is_within most_nested (element found.0.0 found.0.1 nothing)) (resolved first_scope (element found.0.0 found.0.1 nothing) >>= rows_of_root) rows found.2 in
     let names = bind_some (resolved first_scope (element found.0.0 found.0.1 nothing)) rows_of_root rows nested.1 in
     record {
-      is_utf8 = utf8;
-      body = body;
-      body_is = body_is;
-      tokens = runs.0;
-      are_tokens = runs.1;
-      content = shape.0;
-      content_is = shape.1;
-      tag = found.0.0;
-      inside = found.0.1;
-      root_is = found.1;
-      within = nested.0;
       tree = names.0;
-      tree_is = names.1;
+      has_tree = record {
+        is_utf8 = utf8;
+        body = body;
+        body_is = body_is;
+        tokens = runs.0;
+        are_tokens = runs.1;
+        content = shape.0;
+        content_is = shape.1;
+        tag = found.0.0;
+        inside = found.0.1;
+        root_is = found.1;
+        within = nested.0;
+        tree_is = names.1;
+      };
       rows_are = names.2;
     }
 
 -- bytes are tokens in one way
-tokens_same : (bytes : List ℕ) (xs ys : List Token) → AreTokens bytes xs → AreTokens bytes ys → xs ≡ ys
+pub tokens_same : (bytes : List ℕ) (xs ys : List Token) → AreTokens bytes xs → AreTokens bytes ys → xs ≡ ys
 tokens_same bytes [] [] x y = refl
 tokens_same bytes [] (t ∷ ys) x y = let none : 0 < length {A = ℕ} [] = subst (λ (b : List ℕ). 0 < length b) x y.1 in absurd (omega arith)
 tokens_same bytes (t ∷ xs) [] x y = let none : 0 < length {A = ℕ} [] = subst (λ (b : List ℕ). 0 < length b) y x.1 in absurd (omega arith)
@@ -79,10 +82,13 @@ runs_same body one other x y =
     let tokens : x.0 ≡ y.0 = tokens_same body x.0 y.0 x.1 y.1 in
     some_same one other (sym x.2 ∙ ap (λ (l : List Token). run first_state (flat_map events_of_token l) >>= rows_at_end) tokens ∙ y.2)
 
+pub bodies_same : (bytes one other : List ℕ) → without_declaration (without_mark bytes) ≡ Some one → without_declaration (without_mark bytes) ≡ Some other → one ≡ other
+bodies_same bytes one other x y = some_same one other (sym x ∙ y)
+
 pub HasRows-unique : (bytes : List ℕ) (one other : List Response) → HasRows bytes one → HasRows bytes other → one ≡ other
 HasRows-unique bytes one other x y =
-    let body : x.body ≡ y.body = some_same x.body y.body (sym x.body_is ∙ y.body_is) in
-    runs_same y.body one other (subst (λ (b : List ℕ). RunsTo b one) body (runs_of bytes one x)) (runs_of bytes other y)
+    let body : x.has_tree.body ≡ y.has_tree.body = bodies_same bytes x.has_tree.body y.has_tree.body x.has_tree.body_is y.has_tree.body_is in
+    runs_same y.has_tree.body one other (subst (λ (b : List ℕ). RunsTo b one) body (runs_of bytes one x)) (runs_of bytes other y)
 
 append_by : (xs ys : List Event) → ((next : State) → run next (xs ++ ys) ≡ (run next xs >>= λ s. run s ys))
     → (o : Option State) → (o >>= λ next. run next (xs ++ ys)) ≡ ((o >>= λ next. run next xs) >>= λ next. run next ys)
@@ -185,14 +191,14 @@ pub answer_from_body : (bytes body : List ℕ) (r : Result (List Response) Multi
 answer_from_body bytes body (Ok rows) utf8 body_is runs = rows_from bytes body rows utf8 body_is runs
 answer_from_body bytes body (Err NoMemory) utf8 body_is none = tt
 answer_from_body bytes body (Err Bad) utf8 body_is none = λ rows h.
-    none rows (subst (λ (b : List ℕ). RunsTo b rows) (some_same h.body body (sym h.body_is ∙ body_is)) (runs_of bytes rows h))
+    none rows (subst (λ (b : List ℕ). RunsTo b rows) (bodies_same bytes h.has_tree.body body h.has_tree.body_is body_is) (runs_of bytes rows h))
 
 pub no_body : (bytes : List ℕ) (error : MultiError) → Fails error (without_declaration (without_mark bytes)) → IsAnswer (HasRows bytes) (Err error)
 no_body bytes NoMemory none = tt
-no_body bytes Bad none = λ rows h. let clash : None ≡ Some h.body = sym none ∙ h.body_is in cc
+no_body bytes Bad none = λ rows h. let clash : None ≡ Some h.has_tree.body = sym none ∙ h.has_tree.body_is in cc
 
 pub no_text : (bytes : List ℕ) → (IsUtf8 bytes → ⊥) → IsAnswer (HasRows bytes) (Err Bad)
-no_text bytes none = λ rows h. none h.is_utf8
+no_text bytes none = λ rows h. none h.has_tree.is_utf8
 
 -- the answer is the only rows
 pub answer_exact : (bytes : List ℕ) (r : Result (List Response) MultiError) (rows : List Response) → IsAnswer (HasRows bytes) r → HasRows bytes rows

@@ -12,8 +12,8 @@ use Rattle.multistatus.specs.declared.reader.Level.{Level}
 use Rattle.multistatus.specs.Steps.{◌>>=◌}
 use Rattle.multistatus.specs.Elements.{Content, nothing, blanks, text, element, Event, is_blank, is_text, opens, closes, events_of}
 use Rattle.multistatus.specs.Namespaces.{Opening, opening_of}
-use Rattle.multistatus.specs.Multistatus.{most_nested}
-use Rattle.multistatus.specs.Reader.{begun, noted, with_text, joined, scope_of, with_frame, is_name, level_of, inner_by, begun_by, opened_in, root_ended, ended_in, closed_in, texted, emptied_in, State, step, step_by, run}
+use Rattle.multistatus.specs.Documents.{most_nested}
+use Rattle.multistatus.specs.Reader.{begun, noted, with_text, joined, scope_of, with_frame, is_name, level_of, inner_by, begun_by, opened_in, root_ended, ended_in, closed_in, popped_in, texted, emptied_in, State, step, step_by, run}
 
 -- a state
 abbrev pub at : List Level → Option (List Response) → State
@@ -230,7 +230,27 @@ run_two state tag =
     ∙ bind_same (opened_in state.levels state.rows tag) (λ inside. run inside (closes tag.name ∷ [])) (λ inside. closed_in inside.levels inside.rows tag.name)
     (λ inside. run_one inside.levels inside.rows (closes tag.name))
 
-pub emptied-is : (state inside : State) (tag : Tag) (name : Name) → opened_in state.levels state.rows tag ≡ Some inside → name ≡ tag.name
-    → emptied_in state tag ≡ closed_in inside.levels inside.rows name
-emptied-is state inside tag name opened same =
-    ap (λ (o : Option State). o >>= λ s. closed_in s.levels s.rows tag.name) opened ∙ ap (closed_in inside.levels inside.rows) (sym same)
+-- an element that has just begun ends by its own name
+named_ends : (tag : Tag) (o : Opening) (frame : Frame) (below : List Level) (rows : Option (List Response))
+    → closed_in (level_of tag.name o frame ∷ below) rows tag.name ≡ popped_in (level_of tag.name o frame ∷ below) rows
+named_ends tag o frame below rows = ap (λ (b : Bool). cond b (ended_in frame below rows) None) (is_name-same tag.name)
+
+abbrev EndsByName : Tag → State → Type 0
+EndsByName tag inside = closed_in inside.levels inside.rows tag.name ≡ popped_in inside.levels inside.rows
+
+begun_ends : (tag : Tag) (levels : List Level) (rows : Option (List Response)) (o : Opening) (inside : State)
+    → begun_by tag.name levels rows o ≡ Some inside → EndsByName tag inside
+begun_ends tag [] (Some rows) o inside h = cc
+begun_ends tag [] None o inside h =
+    let first : State = at (level_of tag.name o (InMultistatus []) ∷ []) None in
+    let root = chosen (is_dav (codes "multistatus") o.name) (Some first) inside h in
+    subst (EndsByName tag) (some_same first inside root.1) (named_ends tag o (InMultistatus []) [] None)
+begun_ends tag (level ∷ below) rows o inside h =
+    subst (EndsByName tag) (some_same (inner_by tag.name level below rows o) inside h)
+    (named_ends tag o (begun level.frame o.name) (with_frame level (noted level.frame o.name) ∷ below) rows)
+
+pub emptied-is : (state inside : State) (tag : Tag) → opened_in state.levels state.rows tag ≡ Some inside → emptied_in state tag ≡ popped_in inside.levels inside.rows
+emptied-is state inside tag opened =
+    let room = chosen (ltb (length state.levels) most_nested) (opening_of (scope_of state.levels) tag >>= begun_by tag.name state.levels state.rows) inside opened in
+    let found = bind_some (opening_of (scope_of state.levels) tag) (begun_by tag.name state.levels state.rows) inside room.1 in
+    ap (λ (o : Option State). o >>= λ s. closed_in s.levels s.rows tag.name) opened ∙ begun_ends tag state.levels state.rows found.0 inside found.2

@@ -9,7 +9,8 @@ use Rattle.multistatus.specs.Steps.{◌>>=◌}
 use Rattle.multistatus.specs.Elements.{Content, nothing, blanks, text, element, Event, is_blank, is_text, opens, closes, events_of, is_blank_only, root_of, is_within}
 use Rattle.multistatus.specs.Namespaces.{Opening, opening_of, Tree, end, branch, resolved, first_scope}
 use Rattle.multistatus.specs.Rows.{is_dav, rows_of}
-use Rattle.multistatus.specs.Multistatus.{most_nested, rows_of_root}
+use Rattle.multistatus.specs.Documents.{most_nested}
+use Rattle.multistatus.specs.Multistatus.{rows_of_root}
 use Rattle.multistatus.specs.Reader.{with_frame, level_of, begun_by, root_ended, State, run, first_state, rows_at_end}
 use Rattle.multistatus.proofs.Runs.{at, taken, goes_on, run-step, run-nil, run-content, bind_same, bind_assoc, is_name-same}
 use Rattle.multistatus.proofs.Namings.{read_tree, resolved_within, within-resolved, taken-resolved, bind_none, if_bind}

@@ -6,6 +6,7 @@ pub mod Elements
 pub mod Namespaces
 pub mod Rows
 pub mod Maps
+pub mod Documents
 pub mod Multistatus
 pub mod Reader
 pub mod Scopes

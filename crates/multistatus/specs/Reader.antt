@@ -1,5 +1,5 @@
 -- How the reader goes from token to token: the elements that are open, innermost first, and what each has given so far
--- (this project's own). The proofs tie it to specs/Multistatus.antt.
+-- (this project's own). The proofs tie it to specs/Documents.antt and specs/Multistatus.antt.
 use Rattle.std.specs.Prelude.{◌≡◌, ℕ, Bool, true, false, ◌&&◌, List, [], ◌∷◌, ◌++◌, map, reverse, length, Option, Some, None, codes, if◌then◌else◌, nat_lt}
 use Rattle.std.specs.List.{flat_map}
 use Rattle.std.specs.Str.{bytes_eq}
@@ -23,7 +23,7 @@ use Rattle.multistatus.specs.Tokens.{AreTokens}
 use Rattle.multistatus.specs.Elements.{Event, is_blank, is_text, opens, closes, events_of_token}
 use Rattle.multistatus.specs.Namespaces.{Opening, first_scope, opening_of}
 use Rattle.multistatus.specs.Rows.{is_dav, status_code, of_status, propstat_from}
-use Rattle.multistatus.specs.Multistatus.{most_nested}
+use Rattle.multistatus.specs.Documents.{most_nested}
 
 -- an element that begins in another one
 abbrev pub begun_in_response : Expanded → Frame
@@ -185,6 +185,11 @@ ended_in frame (parent ∷ below) rows = joined parent.frame frame >>= λ more. 
 abbrev pub closed_in : List Level → Option (List Response) → Name → Option State
 closed_in [] rows name = None
 closed_in (level ∷ below) rows name = if is_name level.name name then ended_in level.frame below rows else None
+
+-- the innermost element ends, whatever its name
+abbrev pub popped_in : List Level → Option (List Response) → Option State
+popped_in [] rows = None
+popped_in (level ∷ below) rows = ended_in level.frame below rows
 
 -- text
 abbrev pub texted : Level → List Level → Option (List Response) → List ℕ → State

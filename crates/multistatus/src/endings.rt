@@ -11,32 +11,37 @@ use crate::frames::{Frame, PropstatParts, ResponseParts};
 use crate::rows::{Prop, Property, Response};
 use crate::status::status_code;
 use crate::text::trimmed;
-use sqlite_items::Items;
+use bumpalo::Bump;
 use std::alloc::{AllocError, Global};
-use values::Text;
+use values::{Lent, Sequence};
 
 /// The parent where the child has ended.
-pub(crate) fn ended(alloc: Global, parent: Frame, child: Frame) -> Result<Frame, MultiError>
-    ensures { Gives (λ f. f) result (spec.joined parent child) }
+pub(crate) fn ended<'a>(
+    alloc: Global,
+    arena: &'a Bump,
+    parent: Frame<'a>,
+    child: Frame<'a>,
+) -> Result<Frame<'a>, MultiError>
+    ensures { Gives (λ f. f) result (spec.joined parent.entry child.entry) }
 {
     match parent {
         Frame::InMultistatus(rows) => ended_in_multistatus(alloc, rows, child),
-        Frame::InResponse(parts) => ended_in_response(alloc, parts, child),
-        Frame::InPropstat(parts) => ended_in_propstat(alloc, parts, child),
+        Frame::InResponse(parts) => ended_in_response(alloc, arena, parts, child),
+        Frame::InPropstat(parts) => ended_in_propstat(arena, parts, child),
         Frame::InProp(properties) => ended_in_prop(properties, child),
-        Frame::InProperty(property) => ended_in_property(alloc, property, child),
+        Frame::InProperty(property) => ended_in_property(arena, property, child),
         Frame::InHref(text) => Ok(Frame::InHref(text)),
         Frame::InStatus(text) => Ok(Frame::InStatus(text)),
         Frame::Ignored => Ok(Frame::Ignored),
     }
 }
 
-fn ended_in_multistatus(
+fn ended_in_multistatus<'a>(
     alloc: Global,
-    rows: Items<Response>,
-    child: Frame,
-) -> Result<Frame, MultiError>
-    ensures { Gives (λ f. f) result (spec.joined_multistatus rows child) }
+    rows: Sequence<Response<'a>>,
+    child: Frame<'a>,
+) -> Result<Frame<'a>, MultiError>
+    ensures { Gives (λ f. f) result (spec.joined_multistatus rows.entry child.entry) }
 {
     let Frame::InResponse(parts) = child else {
         return Ok(Frame::InMultistatus(rows));
@@ -47,23 +52,30 @@ fn ended_in_multistatus(
     Ok(Frame::InMultistatus(rows))
 }
 
-fn ended_in_response(alloc: Global, parts: ResponseParts, child: Frame) -> Result<Frame, MultiError>
-    ensures { Gives (λ f. f) result (spec.joined_response parts child) }
+fn ended_in_response<'a>(
+    alloc: Global,
+    arena: &'a Bump,
+    parts: ResponseParts<'a>,
+    child: Frame<'a>,
+) -> Result<Frame<'a>, MultiError>
+    ensures { Gives (λ f. f) result (spec.joined_response parts.entry child.entry) }
 {
     let mut parts = parts;
     match child {
         Frame::InHref(text) => {
-            let href = Text::copy_of(alloc, trimmed(text.as_str()))?;
+            let whole = text.text(arena)?;
+            let href = Lent::of(trimmed(whole));
             parts.hrefs.push(href)?;
             Ok(Frame::InResponse(parts))
         }
         Frame::InStatus(text) => {
-            let code = code_of(text.as_str())?;
+            let line = text.text(arena)?;
+            let code = code_of(line)?;
             parts.codes.push(code)?;
             Ok(Frame::InResponse(parts))
         }
         Frame::InPropstat(of_propstat) => {
-            let more = props_of(alloc, of_propstat)?;
+            let more = props_of(alloc, arena, of_propstat)?;
             parts.props.append(more)?;
             parts.has_propstat = true;
             Ok(Frame::InResponse(parts))
@@ -72,8 +84,12 @@ fn ended_in_response(alloc: Global, parts: ResponseParts, child: Frame) -> Resul
     }
 }
 
-fn ended_in_propstat(alloc: Global, parts: PropstatParts, child: Frame) -> Result<Frame, MultiError>
-    ensures { Gives (λ f. f) result (spec.joined_propstat parts child) }
+fn ended_in_propstat<'a>(
+    arena: &'a Bump,
+    parts: PropstatParts<'a>,
+    child: Frame<'a>,
+) -> Result<Frame<'a>, MultiError>
+    ensures { Gives (λ f. f) result (spec.joined_propstat parts.entry child.entry) }
 {
     let mut parts = parts;
     match child {
@@ -82,7 +98,8 @@ fn ended_in_propstat(alloc: Global, parts: PropstatParts, child: Frame) -> Resul
             Ok(Frame::InPropstat(parts))
         }
         Frame::InStatus(text) => {
-            let code = code_of(text.as_str())?;
+            let line = text.text(arena)?;
+            let code = code_of(line)?;
             parts.codes.push(code)?;
             Ok(Frame::InPropstat(parts))
         }
@@ -90,8 +107,11 @@ fn ended_in_propstat(alloc: Global, parts: PropstatParts, child: Frame) -> Resul
     }
 }
 
-fn ended_in_prop(properties: Items<Property>, child: Frame) -> Result<Frame, MultiError>
-    ensures { Gives (λ f. f) result (Some (spec.joined_prop properties child)) }
+fn ended_in_prop<'a>(
+    properties: Sequence<Property<'a>>,
+    child: Frame<'a>,
+) -> Result<Frame<'a>, MultiError>
+    ensures { Gives (λ f. f) result (Some (spec.joined_prop properties.entry child.entry)) }
 {
     let Frame::InProperty(property) = child else {
         return Ok(Frame::InProp(properties));
@@ -101,13 +121,18 @@ fn ended_in_prop(properties: Items<Property>, child: Frame) -> Result<Frame, Mul
     Ok(Frame::InProp(properties))
 }
 
-fn ended_in_property(alloc: Global, property: Property, child: Frame) -> Result<Frame, MultiError>
-    ensures { Gives (λ f. f) result (Some (spec.joined_property property child)) }
+fn ended_in_property<'a>(
+    arena: &'a Bump,
+    property: Property<'a>,
+    child: Frame<'a>,
+) -> Result<Frame<'a>, MultiError>
+    ensures { Gives (λ f. f) result (Some (spec.joined_property property.entry child.entry)) }
 {
     let Frame::InHref(text) = child else {
         return Ok(Frame::InProperty(property));
     };
-    let inner = Text::copy_of(alloc, trimmed(text.as_str()))?;
+    let whole = text.text(arena)?;
+    let inner = Lent::of(trimmed(whole));
     let mut property = property;
     property.hrefs.push(inner)?;
     Ok(Frame::InProperty(property))
@@ -121,35 +146,45 @@ fn code_of(text: &str) -> Result<u16, MultiError>
 }
 
 /// The properties of a propstat, each with its code.
-fn props_of(alloc: Global, parts: PropstatParts) -> Result<Items<Prop>, MultiError>
-    ensures { Gives (λ props. props) result (propstat_from parts.codes parts.lists) }
+fn props_of<'a>(
+    alloc: Global,
+    arena: &'a Bump,
+    parts: PropstatParts<'a>,
+) -> Result<Sequence<Prop<'a>>, MultiError>
+    ensures { Gives (λ props. props) result (propstat_from parts.entry.codes parts.entry.lists) }
 {
     let PropstatParts { codes, lists } = parts;
     let code = only_code(codes.as_slice())?;
     let listed = only_list(lists)?;
-    let props = with_code(alloc, code, listed)?;
+    let props = with_code(alloc, arena, code, listed)?;
     Ok(props)
 }
 
 /// Properties with the code.
-fn with_code(
+fn with_code<'a>(
     alloc: Global,
+    arena: &'a Bump,
     code: u16,
-    properties: Items<Property>,
-) -> Result<Items<Prop>, AllocError>
-    ensures { IfOk result (λ props. props ≡ map (with_code code) properties) }
+    properties: Sequence<Property<'a>>,
+) -> Result<Sequence<Prop<'a>>, AllocError>
+    ensures { IfOk result (λ props. props ≡ map (with_code code) properties.entry) }
 {
     let mut listed = properties;
-    let mut props = Vec::new(alloc);
+    let mut props = Vec::with_capacity(alloc, listed.len())?;
     while let Some(property) = listed.pop() {
-        props.push(property_with_code(code, property))?;
+        let prop = property_with_code(arena, code, property)?;
+        props.push(prop)?;
     }
     props.reverse();
-    Ok(Items::from_vec(props))
+    Ok(Sequence::of(props))
 }
 
-fn property_with_code(code: u16, property: Property) -> Prop
-    ensures { result ≡ with_code code property }
+fn property_with_code<'a>(
+    arena: &'a Bump,
+    code: u16,
+    property: Property<'a>,
+) -> Result<Prop<'a>, AllocError>
+    ensures { IfOk result (λ prop. prop ≡ with_code code property.entry) }
 {
     let Property {
         space,
@@ -158,19 +193,23 @@ fn property_with_code(code: u16, property: Property) -> Prop
         children,
         hrefs,
     } = property;
-    Prop {
+    let whole = text.text(arena)?;
+    Ok(Prop {
         space,
         name,
         code,
-        text,
+        text: Lent::of(whole),
         children,
         hrefs,
-    }
+    })
 }
 
 /// The rows of a response.
-fn rows_of_parts(alloc: Global, parts: ResponseParts) -> Result<Items<Response>, MultiError>
-    ensures { Gives (λ rows. rows) result (spec.rows_of_parts parts) }
+fn rows_of_parts<'a>(
+    alloc: Global,
+    parts: ResponseParts<'a>,
+) -> Result<Sequence<Response<'a>>, MultiError>
+    ensures { Gives (λ rows. rows) result (spec.rows_of_parts parts.entry) }
 {
     let ResponseParts {
         hrefs,
@@ -190,19 +229,19 @@ fn rows_of_parts(alloc: Global, parts: ResponseParts) -> Result<Items<Response>,
 }
 
 /// The row of a response with propstats.
-fn row_of_props(
+fn row_of_props<'a>(
     alloc: Global,
-    hrefs: Items<Text>,
-    codes: Items<u16>,
-    props: Items<Prop>,
-) -> Result<Items<Response>, MultiError>
-    ensures { Gives (λ rows. rows) result (spec.ended_response hrefs codes true props) }
+    hrefs: Sequence<Lent<'a>>,
+    codes: Sequence<u16>,
+    props: Sequence<Prop<'a>>,
+) -> Result<Sequence<Response<'a>>, MultiError>
+    ensures { Gives (λ rows. rows) result (spec.ended_response hrefs.entry codes true props.entry) }
 {
     let href = only_href(hrefs)?;
     if !codes.is_empty() {
         return Err(MultiError::Bad);
     }
-    let mut rows = Items::new(alloc);
+    let mut rows = Sequence::new(alloc);
     rows.push(Response {
         href,
         code: None,
@@ -212,29 +251,29 @@ fn row_of_props(
 }
 
 /// A row of the status for each href.
-fn rows_of_status(
+fn rows_of_status<'a>(
     alloc: Global,
     code: u16,
-    hrefs: Items<Text>,
-) -> Result<Items<Response>, AllocError>
-    ensures { IfOk result (λ rows. rows ≡ map (of_status code) hrefs) }
+    hrefs: Sequence<Lent<'a>>,
+) -> Result<Sequence<Response<'a>>, AllocError>
+    ensures { IfOk result (λ rows. rows ≡ map (of_status code) hrefs.entry) }
 {
     let mut hrefs = hrefs;
-    let mut rows = Vec::new(alloc);
+    let mut rows = Vec::with_capacity(alloc, hrefs.len())?;
     while let Some(href) = hrefs.pop() {
         rows.push(row_of_status(alloc, code, href))?;
     }
     rows.reverse();
-    Ok(Items::from_vec(rows))
+    Ok(Sequence::of(rows))
 }
 
-fn row_of_status(alloc: Global, code: u16, href: Text) -> Response
-    ensures { result ≡ of_status code href }
+fn row_of_status<'a>(alloc: Global, code: u16, href: Lent<'a>) -> Response<'a>
+    ensures { result ≡ of_status code href.entry }
 {
     Response {
         href,
         code: Some(code),
-        props: Items::new(alloc),
+        props: Sequence::new(alloc),
     }
 }
 
@@ -249,8 +288,10 @@ fn only_code(codes: &[u16]) -> Result<u16, MultiError>
 }
 
 /// The only list.
-fn only_list(lists: Items<Items<Property>>) -> Result<Items<Property>, MultiError>
-    ensures { Gives (λ listed. listed) result (spec.only lists) }
+fn only_list<'a>(
+    lists: Sequence<Sequence<Property<'a>>>,
+) -> Result<Sequence<Property<'a>>, MultiError>
+    ensures { Gives (λ listed. listed) result (spec.only lists.entry) }
 {
     let mut lists = lists;
     let Some(listed) = lists.pop() else {
@@ -263,8 +304,8 @@ fn only_list(lists: Items<Items<Property>>) -> Result<Items<Property>, MultiErro
 }
 
 /// The only href.
-fn only_href(hrefs: Items<Text>) -> Result<Text, MultiError>
-    ensures { Gives (λ href. href) result (spec.only hrefs) }
+fn only_href<'a>(hrefs: Sequence<Lent<'a>>) -> Result<Lent<'a>, MultiError>
+    ensures { Gives (λ href. href) result (spec.only hrefs.entry) }
 {
     let mut hrefs = hrefs;
     let Some(href) = hrefs.pop() else {

@@ -6,56 +6,55 @@ ghost use Rattle.multistatus.specs.Steps.{Gives};
 ghost use Rattle.std.specs.Prelude.{◌≡◌, ◌++◌, [], ◌∷◌, Some, IfOk};
 
 use crate::MultiError;
+use crate::gathered::Gathered;
 use crate::rows::{Prop, Property, Response};
 use crate::scopes::Expanded;
-use crate::text::{empty, joined};
-use sqlite_items::Items;
 use std::alloc::{AllocError, Global};
-use values::Text;
+use values::{Lent, Sequence};
 
 /// What an open element has given so far.
 #[derive(Debug, Drop)]
-pub(crate) enum Frame {
-    InMultistatus(Items<Response>),
-    InResponse(ResponseParts),
-    InPropstat(PropstatParts),
-    InProp(Items<Property>),
-    InProperty(Property),
-    InHref(Text),
-    InStatus(Text),
+pub(crate) enum Frame<'a> {
+    InMultistatus(Sequence<Response<'a>>),
+    InResponse(ResponseParts<'a>),
+    InPropstat(PropstatParts<'a>),
+    InProp(Sequence<Property<'a>>),
+    InProperty(Property<'a>),
+    InHref(Gathered<'a>),
+    InStatus(Gathered<'a>),
     Ignored,
 }
 
 /// The children of a response.
 #[derive(Debug, Drop)]
-pub(crate) struct ResponseParts {
-    pub hrefs: Items<Text>,
-    pub codes: Items<u16>,
+pub(crate) struct ResponseParts<'a> {
+    pub hrefs: Sequence<Lent<'a>>,
+    pub codes: Sequence<u16>,
     pub has_propstat: bool,
-    pub props: Items<Prop>,
+    pub props: Sequence<Prop<'a>>,
 }
 
 /// The children of a propstat.
 #[derive(Debug, Drop)]
-pub(crate) struct PropstatParts {
-    pub codes: Items<u16>,
-    pub lists: Items<Items<Property>>,
+pub(crate) struct PropstatParts<'a> {
+    pub codes: Sequence<u16>,
+    pub lists: Sequence<Sequence<Property<'a>>>,
 }
 
 /// Whether a name is this one of `DAV:`.
-pub(crate) fn is_dav(name: &Expanded, local: &str) -> bool
+pub(crate) fn is_dav(name: &Expanded<'_>, local: &str) -> bool
     ensures { result ≡ is_dav local.now name.now }
 {
     name.local.as_str() == local && name.space.as_str() == "DAV:"
 }
 
 /// The parent and the child where an element of the name begins.
-pub(crate) fn begun(
+pub(crate) fn begun<'a>(
     alloc: Global,
-    parent: Frame,
-    name: Expanded,
-) -> Result<(Frame, Frame), MultiError>
-    ensures { Gives (λ both. both) result (Some (spec.noted parent name, spec.begun parent name)) }
+    parent: Frame<'a>,
+    name: Expanded<'a>,
+) -> Result<(Frame<'a>, Frame<'a>), MultiError>
+    ensures { Gives (λ both. both) result (Some (spec.noted parent.entry name.entry, spec.begun parent.entry name.entry)) }
 {
     match parent {
         Frame::InMultistatus(rows) => {
@@ -85,75 +84,75 @@ pub(crate) fn begun(
     }
 }
 
-fn begun_in_multistatus(alloc: Global, name: &Expanded) -> Frame
+fn begun_in_multistatus<'a>(alloc: Global, name: &Expanded<'a>) -> Frame<'a>
     ensures { result ≡ spec.begun_in_multistatus name.now }
 {
     if !is_dav(name, "response") {
         return Frame::Ignored;
     }
     Frame::InResponse(ResponseParts {
-        hrefs: Items::new(alloc),
-        codes: Items::new(alloc),
+        hrefs: Sequence::new(alloc),
+        codes: Sequence::new(alloc),
         has_propstat: false,
-        props: Items::new(alloc),
+        props: Sequence::new(alloc),
     })
 }
 
-fn begun_in_response(alloc: Global, name: &Expanded) -> Frame
+fn begun_in_response<'a>(alloc: Global, name: &Expanded<'a>) -> Frame<'a>
     ensures { result ≡ spec.begun_in_response name.now }
 {
     if is_dav(name, "href") {
-        return Frame::InHref(empty(alloc));
+        return Frame::InHref(Gathered::new(alloc));
     }
     if is_dav(name, "status") {
-        return Frame::InStatus(empty(alloc));
+        return Frame::InStatus(Gathered::new(alloc));
     }
     if !is_dav(name, "propstat") {
         return Frame::Ignored;
     }
     Frame::InPropstat(PropstatParts {
-        codes: Items::new(alloc),
-        lists: Items::new(alloc),
+        codes: Sequence::new(alloc),
+        lists: Sequence::new(alloc),
     })
 }
 
-fn begun_in_propstat(alloc: Global, name: &Expanded) -> Frame
+fn begun_in_propstat<'a>(alloc: Global, name: &Expanded<'a>) -> Frame<'a>
     ensures { result ≡ spec.begun_in_propstat name.now }
 {
     if is_dav(name, "prop") {
-        return Frame::InProp(Items::new(alloc));
+        return Frame::InProp(Sequence::new(alloc));
     }
     if is_dav(name, "status") {
-        return Frame::InStatus(empty(alloc));
+        return Frame::InStatus(Gathered::new(alloc));
     }
     Frame::Ignored
 }
 
-fn begun_in_property(alloc: Global, name: &Expanded) -> Frame
+fn begun_in_property<'a>(alloc: Global, name: &Expanded<'a>) -> Frame<'a>
     ensures { result ≡ spec.begun_in_property name.now }
 {
     if is_dav(name, "href") {
-        return Frame::InHref(empty(alloc));
+        return Frame::InHref(Gathered::new(alloc));
     }
     Frame::Ignored
 }
 
-fn new_property(alloc: Global, name: Expanded) -> Frame
-    ensures { result ≡ spec.new_property name }
+fn new_property<'a>(alloc: Global, name: Expanded<'a>) -> Frame<'a>
+    ensures { result ≡ spec.new_property name.entry }
 {
     let Expanded { space, local } = name;
     Frame::InProperty(Property {
         space,
         name: local,
-        text: empty(alloc),
-        children: Items::new(alloc),
-        hrefs: Items::new(alloc),
+        text: Gathered::new(alloc),
+        children: Sequence::new(alloc),
+        hrefs: Sequence::new(alloc),
     })
 }
 
 /// The property with one more child.
-fn noted(property: Property, name: Expanded) -> Result<Property, AllocError>
-    ensures { IfOk result (λ more. more ≡ record property { children = property.children ++ (name.space, name.local) ∷ [] }) }
+fn noted<'a>(property: Property<'a>, name: Expanded<'a>) -> Result<Property<'a>, AllocError>
+    ensures { IfOk result (λ more. more ≡ record property.entry { children = property.entry.children ++ (name.entry.space, name.entry.local) ∷ [] }) }
 {
     let mut property = property;
     property.children.push((name.space, name.local))?;
@@ -161,8 +160,8 @@ fn noted(property: Property, name: Expanded) -> Result<Property, AllocError>
 }
 
 /// The frame with more character data.
-pub(crate) fn with_text(frame: Frame, more: &str) -> Result<Frame, MultiError>
-    ensures { Gives (λ f. f) result (Some (spec.with_text frame more.now)) }
+pub(crate) fn with_text<'a>(frame: Frame<'a>, more: Lent<'a>) -> Result<Frame<'a>, MultiError>
+    ensures { Gives (λ f. f) result (Some (spec.with_text frame.entry more.entry)) }
 {
     match frame {
         Frame::InProperty(property) => {
@@ -170,19 +169,22 @@ pub(crate) fn with_text(frame: Frame, more: &str) -> Result<Frame, MultiError>
             Ok(Frame::InProperty(property))
         }
         Frame::InHref(text) => {
-            let text = joined(text, more)?;
+            let text = text.with(more)?;
             Ok(Frame::InHref(text))
         }
         Frame::InStatus(text) => {
-            let text = joined(text, more)?;
+            let text = text.with(more)?;
             Ok(Frame::InStatus(text))
         }
         frame => Ok(frame),
     }
 }
 
-fn property_with_text(property: Property, more: &str) -> Result<Property, AllocError>
-    ensures { IfOk result (λ longer. longer ≡ record property { text = property.text ++ more.now }) }
+fn property_with_text<'a>(
+    property: Property<'a>,
+    more: Lent<'a>,
+) -> Result<Property<'a>, AllocError>
+    ensures { IfOk result (λ longer. longer ≡ record property.entry { text = property.entry.text ++ more.entry }) }
 {
     let Property {
         space,
@@ -191,7 +193,7 @@ fn property_with_text(property: Property, more: &str) -> Result<Property, AllocE
         children,
         hrefs,
     } = property;
-    let text = joined(text, more)?;
+    let text = text.with(more)?;
     Ok(Property {
         space,
         name,

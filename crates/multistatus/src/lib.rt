@@ -4,6 +4,7 @@
 mod endings;
 mod error;
 mod frames;
+mod gathered;
 mod laws;
 mod multistatus;
 mod reader;
@@ -12,12 +13,10 @@ mod rows;
 mod scopes;
 mod status;
 mod tags;
-#[cfg(test)]
-mod tests;
 mod text;
 mod tokens;
 
 pub use error::MultiError;
-pub use laws::rows_are_unique;
+pub use laws::{rows_are_unique, trees_are_unique};
 pub use multistatus::read_multistatus;
 pub use rows::{Prop, Response};

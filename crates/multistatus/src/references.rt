@@ -8,23 +8,35 @@ ghost use Rattle.multistatus.specs.Steps.{Gives};
 
 use crate::MultiError;
 use crate::text::{cut, stripped};
-use std::alloc::{AllocError, Global};
-use values::Text;
+use bumpalo::Bump;
+use bumpalo::collections::into_bump_str;
+use std::alloc::AllocError;
 
 /// The greatest code of a character.
 const LAST_CHAR: u32 = 0x10_FFFF;
 
-/// The text with each CR LF and each CR as a LF.
+/// The text with each CR LF and each CR as a LF. It stands in the arena where it has a CR.
 #[tactic(auto, unfolding(crate::specs::Texts::line_ends))]
-pub(crate) fn line_ends(alloc: Global, text: &str) -> Result<Text, AllocError>
-    ensures { IfOk result (λ made. made ≡ spec.line_ends text.now) }
+pub(crate) fn line_ends<'a>(arena: &'a Bump, text: &'a str) -> Result<&'a str, AllocError>
+    ensures { IfOk result (λ made. made.now ≡ spec.line_ends text.now) }
 {
-    let mut made = String::new(alloc);
+    match cut(text, "\r") {
+        None => Ok(text),
+        Some(_) => line_ends_made(arena, text),
+    }
+}
+
+/// The same, as a text of its own.
+#[tactic(auto, unfolding(crate::specs::Texts::line_ends))]
+fn line_ends_made<'a>(arena: &'a Bump, text: &str) -> Result<&'a str, AllocError>
+    ensures { IfOk result (λ made. made.now ≡ spec.line_ends text.now) }
+{
+    let mut made = String::with_capacity(arena, text.len())?;
     let mut rest = text;
     'lines: loop {
         let Some((line, behind)) = cut(rest, "\r") else {
             made.push_str(rest)?;
-            return Ok(Text::of(made));
+            return Ok(into_bump_str(made));
         };
         made.push_str(line)?;
         made.push_str("\n")?;
@@ -44,24 +56,35 @@ fn past_line_feed(text: &str) -> &str
 }
 
 /// Text with its line ends as LF and its references resolved.
-pub(crate) fn char_data(alloc: Global, piece: &str) -> Result<Text, MultiError>
-    ensures { Gives (λ text. text) result (spec.char_data piece.now) }
+pub(crate) fn char_data<'a>(arena: &'a Bump, piece: &'a str) -> Result<&'a str, MultiError>
+    ensures { Gives (λ text. text.now) result (spec.char_data piece.now) }
 {
-    let lines = line_ends(alloc, piece)?;
-    resolved(alloc, lines.as_str())
+    let lines = line_ends(arena, piece)?;
+    resolved(arena, lines)
 }
 
-/// Text with its references resolved.
+/// Text with its references resolved. It stands in the arena where it has any.
 #[tactic(auto, unfolding(crate::specs::Texts::resolved_text))]
-fn resolved(alloc: Global, text: &str) -> Result<Text, MultiError>
-    ensures { Gives (λ text. text) result (spec.resolved_text text.now) }
+fn resolved<'a>(arena: &'a Bump, text: &'a str) -> Result<&'a str, MultiError>
+    ensures { Gives (λ text. text.now) result (spec.resolved_text text.now) }
 {
-    let mut made = String::new(alloc);
+    match cut(text, "&") {
+        None => Ok(text),
+        Some(_) => resolved_made(arena, text),
+    }
+}
+
+/// The same, as a text of its own.
+#[tactic(auto, unfolding(crate::specs::Texts::resolved_text))]
+fn resolved_made<'a>(arena: &'a Bump, text: &str) -> Result<&'a str, MultiError>
+    ensures { Gives (λ text. text.now) result (spec.resolved_text text.now) }
+{
+    let mut made = String::with_capacity(arena, text.len())?;
     let mut rest = text;
     'references: loop {
         let Some((plain, behind)) = cut(rest, "&") else {
             made.push_str(rest)?;
-            return Ok(Text::of(made));
+            return Ok(into_bump_str(made));
         };
         let Some((name, after)) = cut(behind, ";") else {
             return Err(MultiError::Bad);

@@ -13,12 +13,10 @@ ghost use Rattle.multistatus.specs.Steps.{Gives};
 use crate::MultiError;
 use crate::reader::Level;
 use crate::tags::{Attribute, Name, Tag};
-use crate::text::empty;
-use sqlite_items::Items;
 use std::alloc::{AllocError, Global};
 use std::collections::{BTreeMap, BTreeSet};
 use std::marker::Model;
-use values::Text;
+use values::{Lent, Sequence};
 
 const XML_SPACE: &str = "http://www.w3.org/XML/1998/namespace";
 
@@ -26,19 +24,19 @@ const XMLNS_SPACE: &str = "http://www.w3.org/2000/xmlns/";
 
 /// A declaration: a prefix, of no bytes for names without one, and its namespace.
 #[derive(Debug, Drop)]
-pub(crate) struct Binding {
-    pub prefix: Text,
-    pub space: Text,
+pub(crate) struct Binding<'a> {
+    pub prefix: Lent<'a>,
+    pub space: Lent<'a>,
 }
 
 /// The declarations of a tag, in order and by prefix.
 #[derive(Debug, Drop)]
-pub(crate) struct Declarations {
-    listed: Items<Binding>,
-    by_prefix: BTreeMap<Text, Text>,
+pub(crate) struct Declarations<'a> {
+    listed: Sequence<Binding<'a>>,
+    by_prefix: BTreeMap<Lent<'a>, Lent<'a>>,
 }
 
-impl Model for Declarations {
+impl<'a> Model for Declarations<'a> {
     ghost use Rattle.std.specs.Prelude.{List};
     ghost use Rattle.multistatus.specs.Maps.{IsMapOf};
     ghost use Rattle.multistatus.specs.declared.scopes.Binding.{Binding};
@@ -50,37 +48,37 @@ impl Model for Declarations {
     ghost invariant = { λ d. IsMapOf d.by_prefix d.listed };
 }
 
-impl Declarations {
-    fn new(alloc: Global) -> Declarations
+impl<'a> Declarations<'a> {
+    fn new(alloc: Global) -> Declarations<'a>
         ensures { result ≡ [] }
     {
         Declarations {
-            listed: Items::new(alloc),
+            listed: Sequence::new(alloc),
             by_prefix: BTreeMap::new(alloc),
         }
     }
 
     /// The declarations and one more.
-    fn with(self, alloc: Global, binding: Binding) -> Result<Declarations, AllocError>
-        ensures { IfOk result (λ more. more ≡ self ++ binding ∷ []) }
+    fn with(self, binding: Binding<'a>) -> Result<Declarations<'a>, AllocError>
+        ensures { IfOk result (λ more. more ≡ self.entry ++ binding.entry ∷ []) }
     {
         let Declarations {
             mut listed,
             by_prefix,
         } = self;
-        let by_prefix = mapped(alloc, by_prefix, &binding)?;
+        let by_prefix = mapped(by_prefix, &binding)?;
         listed.push(binding)?;
         Ok(Declarations { listed, by_prefix })
     }
 
-    fn as_slice(&self) -> &[Binding]
+    fn as_slice(&self) -> &[Binding<'a>]
         ensures { result.now ≡ self.now }
     {
         self.listed.as_slice()
     }
 
     /// The namespace of a prefix.
-    fn space(&self, prefix: &Text) -> Option<&str>
+    fn space(&self, prefix: &Lent<'a>) -> Option<&'a str>
         ensures { option_copied result ≡ spec.space_of prefix.now self.now }
     {
         match self.by_prefix.get(prefix) {
@@ -91,18 +89,17 @@ impl Declarations {
 }
 
 /// The map of declarations and one more, which the earlier ones come before.
-fn mapped(
-    alloc: Global,
-    by_prefix: BTreeMap<Text, Text>,
-    binding: &Binding,
-) -> Result<BTreeMap<Text, Text>, AllocError>
-    ensures { IfOk result (λ more. (listed : List Binding) → IsMapOf by_prefix listed → IsMapOf more (listed ++ binding.now ∷ [])) }
+fn mapped<'a>(
+    by_prefix: BTreeMap<Lent<'a>, Lent<'a>>,
+    binding: &Binding<'a>,
+) -> Result<BTreeMap<Lent<'a>, Lent<'a>>, AllocError>
+    ensures { IfOk result (λ more. (listed : List Binding) → IsMapOf by_prefix.entry listed → IsMapOf more (listed ++ binding.now ∷ [])) }
 {
     if by_prefix.contains_key(&binding.prefix) {
         return Ok(by_prefix);
     }
-    let prefix = Text::copy_of(alloc, binding.prefix.as_str())?;
-    let space = Text::copy_of(alloc, binding.space.as_str())?;
+    let prefix = Lent::of(binding.prefix.as_str());
+    let space = Lent::of(binding.space.as_str());
     let mut more = by_prefix;
     more.insert(prefix, space)?;
     Ok(more)
@@ -110,21 +107,25 @@ fn mapped(
 
 /// A name with its namespace, of no bytes where it is in none.
 #[derive(Debug, Drop)]
-pub(crate) struct Expanded {
-    pub space: Text,
-    pub local: Text,
+pub(crate) struct Expanded<'a> {
+    pub space: Lent<'a>,
+    pub local: Lent<'a>,
 }
 
 /// What a tag opens: its declarations, and the name of its element.
 #[derive(Debug, Drop)]
-pub(crate) struct Opened {
-    pub declared: Declarations,
-    pub name: Expanded,
+pub(crate) struct Opened<'a> {
+    pub declared: Declarations<'a>,
+    pub name: Expanded<'a>,
 }
 
 /// What a tag opens inside these elements.
 #[tactic(auto, unfolding(crate::specs::Namespaces::opening_of))]
-pub(crate) fn opening_of(alloc: Global, levels: &[Level], tag: &Tag) -> Result<Opened, MultiError>
+pub(crate) fn opening_of<'a>(
+    alloc: Global,
+    levels: &[Level<'a>],
+    tag: &Tag<'a>,
+) -> Result<Opened<'a>, MultiError>
     ensures { Gives (λ o. opening o) result (spec.opening_of (scope_of (reverse levels.now)) tag.now) }
 {
     let declared = declarations_of(alloc, tag.attributes.as_slice())?;
@@ -132,55 +133,57 @@ pub(crate) fn opening_of(alloc: Global, levels: &[Level], tag: &Tag) -> Result<O
         return Err(MultiError::Bad);
     }
     attributes_differ(alloc, &declared, levels, tag.attributes.as_slice())?;
-    let name = element_name(alloc, &declared, levels, &tag.name)?;
+    let name = element_name(&declared, levels, &tag.name)?;
     Ok(Opened { declared, name })
 }
 
 /// The declarations among attributes.
-fn declarations_of(alloc: Global, attributes: &[Attribute]) -> Result<Declarations, AllocError>
+fn declarations_of<'a>(
+    alloc: Global,
+    attributes: &[Attribute<'a>],
+) -> Result<Declarations<'a>, AllocError>
     ensures { IfOk result (λ declared. declared ≡ spec.declarations_of attributes.now) }
 {
     let mut declared = Declarations::new(alloc);
     for attribute in attributes {
-        declared = with_attribute(alloc, declared, attribute)?;
+        declared = with_attribute(declared, attribute)?;
     }
     Ok(declared)
 }
 
 /// The declarations and the one that an attribute is, if it is one.
-fn with_attribute(
-    alloc: Global,
-    declared: Declarations,
-    attribute: &Attribute,
-) -> Result<Declarations, AllocError>
-    ensures { IfOk result (λ more. more ≡ declared ++ spec.declarations_of (attribute.now ∷ [])) }
+fn with_attribute<'a>(
+    declared: Declarations<'a>,
+    attribute: &Attribute<'a>,
+) -> Result<Declarations<'a>, AllocError>
+    ensures { IfOk result (λ more. more ≡ declared.entry ++ spec.declarations_of (attribute.now ∷ [])) }
 {
-    match declaration_of(alloc, attribute)? {
-        Some(binding) => declared.with(alloc, binding),
+    match declaration_of(attribute) {
+        Some(binding) => declared.with(binding),
         None => Ok(declared),
     }
 }
 
 /// The declaration that an attribute is, if it is one.
 #[tactic(auto, unfolding(crate::specs::Namespaces::declaration_of))]
-fn declaration_of(alloc: Global, attribute: &Attribute) -> Result<Option<Binding>, AllocError>
-    ensures { IfOk result (λ found. found ≡ spec.declaration_of attribute.now) }
+fn declaration_of<'a>(attribute: &Attribute<'a>) -> Option<Binding<'a>>
+    ensures { result ≡ spec.declaration_of attribute.now }
 {
     let name = &attribute.name;
     if name.prefix.as_str() == "xmlns" {
-        let prefix = Text::copy_of(alloc, name.local.as_str())?;
-        let space = Text::copy_of(alloc, attribute.value.as_str())?;
-        return Ok(Some(Binding { prefix, space }));
+        let prefix = Lent::of(name.local.as_str());
+        let space = Lent::of(attribute.value.as_str());
+        return Some(Binding { prefix, space });
     }
     if name.prefix.as_str().is_empty() && name.local.as_str() == "xmlns" {
-        let prefix = empty(alloc);
-        let space = Text::copy_of(alloc, attribute.value.as_str())?;
-        return Ok(Some(Binding { prefix, space }));
+        let prefix = Lent::of("");
+        let space = Lent::of(attribute.value.as_str());
+        return Some(Binding { prefix, space });
     }
-    Ok(None)
+    None
 }
 
-fn may_all_declare(declared: &[Binding]) -> bool
+fn may_all_declare(declared: &[Binding<'_>]) -> bool
     ensures { result ≡ list_all spec.may_declare declared.now }
 {
     declared.iter().all(|binding| may_declare(binding))
@@ -188,7 +191,7 @@ fn may_all_declare(declared: &[Binding]) -> bool
 
 /// Whether a declaration may stand.
 #[tactic(auto, unfolding(crate::specs::Namespaces::may_declare))]
-fn may_declare(binding: &Binding) -> bool
+fn may_declare(binding: &Binding<'_>) -> bool
     ensures { result ≡ spec.may_declare binding.now }
 {
     let prefix = binding.prefix.as_str();
@@ -217,7 +220,11 @@ fn keeps_xml(prefix: &str, space: &str) -> bool
 }
 
 /// The namespace of a prefix, by the declarations of a tag and of the elements around it.
-fn space_of<'b>(declared: &'b Declarations, levels: &'b [Level], prefix: &Text) -> Option<&'b str>
+fn space_of<'a>(
+    declared: &Declarations<'a>,
+    levels: &[Level<'a>],
+    prefix: &Lent<'a>,
+) -> Option<&'a str>
     ensures { option_copied result ≡ spec.space_of prefix.now (scope_in declared.now levels.now) }
 {
     if let Some(space) = declared.space(prefix) {
@@ -227,7 +234,7 @@ fn space_of<'b>(declared: &'b Declarations, levels: &'b [Level], prefix: &Text) 
 }
 
 /// The namespace of a prefix, by the declarations of elements.
-fn space_around<'b>(levels: &'b [Level], prefix: &Text) -> Option<&'b str>
+fn space_around<'a>(levels: &[Level<'a>], prefix: &Lent<'a>) -> Option<&'a str>
     ensures { option_copied result ≡ spec.space_of prefix.now (scope_of (reverse levels.now)) }
 {
     let mut n = levels.len();
@@ -246,41 +253,40 @@ fn space_around<'b>(levels: &'b [Level], prefix: &Text) -> Option<&'b str>
 
 /// The name of an element.
 #[tactic(auto, unfolding(crate::specs::Namespaces::element_name))]
-fn element_name(
-    alloc: Global,
-    declared: &Declarations,
-    levels: &[Level],
-    name: &Name,
-) -> Result<Expanded, MultiError>
+fn element_name<'a>(
+    declared: &Declarations<'a>,
+    levels: &[Level<'a>],
+    name: &Name<'a>,
+) -> Result<Expanded<'a>, MultiError>
     ensures { Gives (λ found. found) result (spec.element_name (scope_in declared.now levels.now) name.now) }
 {
     match space_of(declared, levels, &name.prefix) {
-        Some(space) => named(alloc, space, name),
+        Some(space) => Ok(named(space, name)),
         None => {
             if !name.prefix.as_str().is_empty() {
                 return Err(MultiError::Bad);
             }
-            named(alloc, "", name)
+            Ok(named("", name))
         }
     }
 }
 
 /// The local part of a name in a namespace.
-fn named(alloc: Global, space: &str, name: &Name) -> Result<Expanded, MultiError>
-    ensures { Gives (λ found. found) result (Some (record { space = space.now; local = name.now.local })) }
+fn named<'a>(space: &'a str, name: &Name<'a>) -> Expanded<'a>
+    ensures { result ≡ record { space = space.now; local = name.now.local } }
 {
-    let space = Text::copy_of(alloc, space)?;
-    let local = Text::copy_of(alloc, name.local.as_str())?;
-    Ok(Expanded { space, local })
+    let space = Lent::of(space);
+    let local = Lent::of(name.local.as_str());
+    Expanded { space, local }
 }
 
 /// The namespace of the name of an attribute.
 #[tactic(auto, unfolding(crate::specs::Namespaces::attribute_space))]
-fn attribute_space<'b>(
-    declared: &'b Declarations,
-    levels: &'b [Level],
-    prefix: &Text,
-) -> Option<&'b str>
+fn attribute_space<'a>(
+    declared: &Declarations<'a>,
+    levels: &[Level<'a>],
+    prefix: &Lent<'a>,
+) -> Option<&'a str>
     ensures { option_copied result ≡ spec.attribute_space (scope_in declared.now levels.now) prefix.now }
 {
     if prefix.as_str().is_empty() {
@@ -294,32 +300,31 @@ fn attribute_space<'b>(
 
 /// The name of an attribute.
 #[tactic(auto, unfolding(crate::specs::Namespaces::attribute_name))]
-fn attribute_name(
-    alloc: Global,
-    declared: &Declarations,
-    levels: &[Level],
-    attribute: &Attribute,
-) -> Result<Expanded, MultiError>
+fn attribute_name<'a>(
+    declared: &Declarations<'a>,
+    levels: &[Level<'a>],
+    attribute: &Attribute<'a>,
+) -> Result<Expanded<'a>, MultiError>
     ensures { Gives (λ found. found) result (spec.attribute_name (scope_in declared.now levels.now) attribute.now) }
 {
     match attribute_space(declared, levels, &attribute.name.prefix) {
-        Some(space) => named(alloc, space, &attribute.name),
+        Some(space) => Ok(named(space, &attribute.name)),
         None => Err(MultiError::Bad),
     }
 }
 
 /// Succeeds where all attributes have names, and no two the same.
-fn attributes_differ(
+fn attributes_differ<'a>(
     alloc: Global,
-    declared: &Declarations,
-    levels: &[Level],
-    attributes: &[Attribute],
+    declared: &Declarations<'a>,
+    levels: &[Level<'a>],
+    attributes: &[Attribute<'a>],
 ) -> Result<(), MultiError>
     ensures { Gives (λ done. done) result (differing (scope_in declared.now levels.now) attributes.now) }
 {
     let mut seen = BTreeSet::new(alloc);
     for attribute in attributes {
-        let name = attribute_name(alloc, declared, levels, attribute)?;
+        let name = attribute_name(declared, levels, attribute)?;
         let is_new = seen.insert((name.local, name.space))?;
         if !is_new {
             return Err(MultiError::Bad);

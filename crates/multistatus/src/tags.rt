@@ -9,30 +9,30 @@ ghost use Rattle.multistatus.specs.Steps.{Gives};
 
 use crate::MultiError;
 use crate::references::char_data;
-use crate::text::{begins_white, cut, empty, is_white, past_white, stripped};
-use sqlite_items::Items;
+use crate::text::{begins_white, cut, is_white, past_white, stripped};
+use bumpalo::Bump;
 use std::alloc::Global;
-use values::Text;
+use values::{Lent, Sequence};
 
 /// A name as it stands: its prefix, of no bytes where it has none, and what follows.
 #[derive(Debug, Drop)]
-pub(crate) struct Name {
-    pub prefix: Text,
-    pub local: Text,
+pub(crate) struct Name<'a> {
+    pub prefix: Lent<'a>,
+    pub local: Lent<'a>,
 }
 
 /// An attribute and its value.
 #[derive(Debug, Drop)]
-pub(crate) struct Attribute {
-    pub name: Name,
-    pub value: Text,
+pub(crate) struct Attribute<'a> {
+    pub name: Name<'a>,
+    pub value: Lent<'a>,
 }
 
 /// A start tag or an empty-element tag.
 #[derive(Debug, Drop)]
-pub(crate) struct Tag {
-    pub name: Name,
-    pub attributes: Items<Attribute>,
+pub(crate) struct Tag<'a> {
+    pub name: Name<'a>,
+    pub attributes: Sequence<Attribute<'a>>,
 }
 
 /// Whether a byte may stand in a part of a name.
@@ -81,19 +81,19 @@ pub(crate) fn part_at(text: &str) -> Result<(&str, &str), MultiError>
 
 /// A name at the front, and what follows it.
 #[tactic(auto, unfolding(crate::specs::Tags::name_at))]
-pub(crate) fn name_at(alloc: Global, text: &str) -> Result<(Name, &str), MultiError>
+pub(crate) fn name_at(text: &str) -> Result<(Name<'_>, &str), MultiError>
     ensures found { Gives (λ found. (found.0, found.1.now)) result (spec.name_at text.now) }
     ensures shorter { IfOk result (λ found. length found.1.now ≤ length text.now) }
 {
     let (first, rest) = part_at(text)?;
     let Some(more) = stripped(rest, ":") else {
-        let prefix = empty(alloc);
-        let local = Text::copy_of(alloc, first)?;
+        let prefix = Lent::of("");
+        let local = Lent::of(first);
         return Ok((Name { prefix, local }, rest));
     };
     let (second, rest) = part_at(more)?;
-    let prefix = Text::copy_of(alloc, first)?;
-    let local = Text::copy_of(alloc, second)?;
+    let prefix = Lent::of(first);
+    let local = Lent::of(second);
     Ok((Name { prefix, local }, rest))
 }
 
@@ -143,35 +143,39 @@ fn holds_tag(bytes: &[u8]) -> bool
 
 /// The value of an attribute, by what stands in the quotes.
 #[tactic(auto, unfolding(crate::specs::Tags::value_of))]
-fn value_of(alloc: Global, piece: &str) -> Result<Text, MultiError>
-    ensures { Gives (λ value. value) result (spec.value_of piece.now) }
+fn value_of<'a>(arena: &'a Bump, piece: &'a str) -> Result<&'a str, MultiError>
+    ensures { Gives (λ value. value.now) result (spec.value_of piece.now) }
 {
     if holds_tag(piece.as_bytes()) {
         return Err(MultiError::Bad);
     }
-    char_data(alloc, piece)
+    char_data(arena, piece)
 }
 
 /// An attribute at the front, and what follows it.
 #[tactic(auto, unfolding(crate::specs::Tags::attribute_at))]
-fn attribute_at(alloc: Global, text: &str) -> Result<(Attribute, &str), MultiError>
+fn attribute_at<'a>(
+    arena: &'a Bump,
+    text: &'a str,
+) -> Result<(Attribute<'a>, &'a str), MultiError>
     ensures found { Gives (λ found. (found.0, found.1.now)) result (spec.attribute_at text.now) }
     ensures shorter { IfOk result (λ found. length found.1.now < length text.now) }
 {
-    let (name, rest) = name_at(alloc, text)?;
+    let (name, rest) = name_at(text)?;
     let after = behind_mark(past_white(rest), "=")?;
     let (piece, rest) = quoted_at(past_white(after))?;
-    let value = value_of(alloc, piece)?;
+    let text = value_of(arena, piece)?;
+    let value = Lent::of(text);
     Ok((Attribute { name, value }, rest))
 }
 
 /// How a tag goes on.
 #[derive(Debug, Drop)]
-enum TagStep<'t> {
+enum TagStep<'a> {
     /// An attribute, and what follows it.
-    Onward(Attribute, &'t str),
+    Onward(Attribute<'a>, &'a str),
     /// The end: whether the element is empty, and what follows.
-    Ended(bool, &'t str),
+    Ended(bool, &'a str),
 }
 
 /// The end of a tag at the front: whether the element is empty, and what follows.
@@ -191,7 +195,7 @@ fn tag_end(text: &str) -> Option<(bool, &str)>
 
 /// An attribute behind white space, or the end of the tag.
 #[tactic(auto, unfolding(crate::specs::Tags::tag_step))]
-fn tag_step(alloc: Global, text: &str) -> Result<TagStep<'_>, MultiError>
+fn tag_step<'a>(arena: &'a Bump, text: &'a str) -> Result<TagStep<'a>, MultiError>
     ensures step { spec.GivesStep result (spec.tag_step text.now) }
     ensures shorter { spec.LeavesLess (length text.now) result }
 {
@@ -202,27 +206,31 @@ fn tag_step(alloc: Global, text: &str) -> Result<TagStep<'_>, MultiError>
     if !begins_white(text.as_bytes()) {
         return Err(MultiError::Bad);
     }
-    let (attribute, rest) = attribute_at(alloc, inside)?;
+    let (attribute, rest) = attribute_at(arena, inside)?;
     Ok(TagStep::Onward(attribute, rest))
 }
 
 /// What follows the name in a tag.
 #[derive(Debug, Drop)]
-pub(crate) struct TagRest<'t> {
-    pub attributes: Items<Attribute>,
+pub(crate) struct TagRest<'a> {
+    pub attributes: Sequence<Attribute<'a>>,
     pub is_empty: bool,
-    pub rest: &'t str,
+    pub rest: &'a str,
 }
 
 /// The attributes of a tag, up to its end.
-pub(crate) fn tag_rest(alloc: Global, text: &str) -> Result<TagRest<'_>, MultiError>
+pub(crate) fn tag_rest<'a>(
+    alloc: Global,
+    arena: &'a Bump,
+    text: &'a str,
+) -> Result<TagRest<'a>, MultiError>
     ensures found { Gives (λ found. spec.rest_of found) result (spec.tag_rest (length text.now) text.now) }
     ensures shorter { IfOk result (λ found. length found.rest.now ≤ length text.now) }
 {
-    let mut attributes = Items::new(alloc);
+    let mut attributes = Sequence::new(alloc);
     let mut rest = text;
     'attributes: loop {
-        match tag_step(alloc, rest) {
+        match tag_step(arena, rest) {
             Err(error) => return Err(error),
             Ok(step) => match step {
                 TagStep::Ended(is_empty, rest) => {

@@ -1,11 +1,8 @@
 //! Text cut by marks, and white space.
 
-ghost use Rattle.std.specs.Prelude.{◌≡◌, ◌≤◌, ◌+◌, ◌++◌, [], ◌∷◌, length, option_map, IfSome, IfOk};
+ghost use Rattle.std.specs.Prelude.{◌≡◌, ◌≤◌, ◌+◌, length, option_map, IfSome};
 ghost use Rattle.std.specs.Option.{option_copied};
 ghost use Rattle.multistatus.specs.Texts as spec;
-
-use std::alloc::{AllocError, Global};
-use values::Text;
 
 /// White space of XML.
 pub(crate) fn is_white(byte: u8) -> bool
@@ -69,20 +66,4 @@ pub(crate) fn trimmed(text: &str) -> &str
     ensures { result.now ≡ spec.trimmed text.now }
 {
     without_end(past_white(text))
-}
-
-/// A text with another one behind it.
-pub(crate) fn joined(text: Text, more: &str) -> Result<Text, AllocError>
-    ensures { IfOk result (λ both. both ≡ text ++ more.now) }
-{
-    let mut inner = text.into_string();
-    inner.push_str(more)?;
-    Ok(Text::of(inner))
-}
-
-/// A text of no bytes.
-pub(crate) fn empty(alloc: Global) -> Text
-    ensures { result ≡ [] }
-{
-    Text::of(String::new(alloc))
 }

@@ -10,36 +10,41 @@ use crate::MultiError;
 use crate::references::{char_data, line_ends};
 use crate::tags::{Name, Tag, behind_mark, name_at, part_at, parts_at, tag_rest};
 use crate::text::{begins_white, is_white, past_white, stripped};
+use bumpalo::Bump;
 use std::alloc::Global;
-use values::Text;
+use values::Lent;
 
 /// A token of a document.
 #[derive(Debug, Drop)]
-pub(crate) enum Token {
+pub(crate) enum Token<'a> {
     /// A comment or a processing instruction.
     Passed,
     /// White space as it stands.
-    Blank(Text),
+    Blank(Lent<'a>),
     /// Text, or a CDATA section.
-    Chars(Text),
+    Chars(Lent<'a>),
     /// A start tag.
-    Open(Tag),
+    Open(Tag<'a>),
     /// An empty-element tag.
-    Empty(Tag),
+    Empty(Tag<'a>),
     /// An end tag.
-    Close(Name),
+    Close(Name<'a>),
 }
 
 /// The token at the front, and what follows it.
 #[tactic(auto, unfolding(crate::specs::Tokens::token_at))]
-pub(crate) fn token_at(alloc: Global, text: &str) -> Result<(Token, &str), MultiError>
+pub(crate) fn token_at<'a>(
+    alloc: Global,
+    arena: &'a Bump,
+    text: &'a str,
+) -> Result<(Token<'a>, &'a str), MultiError>
     requires { 0 < length text.now }
     ensures found { Gives (λ found. (found.0, found.1.now)) result (spec.token_at text.now) }
     ensures shorter { IfOk result (λ found. length found.1.now < length text.now) }
 {
     match stripped(text, "<") {
-        None => text_at(alloc, text),
-        Some(rest) => markup_at(alloc, rest),
+        None => text_at(arena, text),
+        Some(rest) => markup_at(alloc, arena, rest),
     }
 }
 
@@ -66,27 +71,27 @@ fn text_bytes(text: &str) -> (&str, &str)
 
 /// Text at the front.
 #[tactic(auto, unfolding(crate::specs::Tokens::text_at))]
-fn text_at(alloc: Global, text: &str) -> Result<(Token, &str), MultiError>
+fn text_at<'a>(arena: &'a Bump, text: &'a str) -> Result<(Token<'a>, &'a str), MultiError>
     requires some { 0 < length text.now }
     requires other { stripped (codes "<") text.now ≡ None }
     ensures found { Gives (λ found. (found.0, found.1.now)) result (spec.text_at text.now) }
     ensures shorter { IfOk result (λ found. length found.1.now < length text.now) }
 {
     let (piece, rest) = text_bytes(text);
-    let token = text_token(alloc, piece)?;
+    let token = text_token(arena, piece)?;
     Ok((token, rest))
 }
 
 /// White space or text.
-fn text_token(alloc: Global, piece: &str) -> Result<Token, MultiError>
+fn text_token<'a>(arena: &'a Bump, piece: &'a str) -> Result<Token<'a>, MultiError>
     ensures { Gives (λ token. token) result (spec.text_token piece.now) }
 {
     if is_all_white(piece.as_bytes()) {
-        let white = line_ends(alloc, piece)?;
-        return Ok(Token::Blank(white));
+        let white = line_ends(arena, piece)?;
+        return Ok(Token::Blank(Lent::of(white)));
     }
-    let chars = char_data(alloc, piece)?;
-    Ok(Token::Chars(chars))
+    let chars = char_data(arena, piece)?;
+    Ok(Token::Chars(Lent::of(chars)))
 }
 
 fn is_all_white(bytes: &[u8]) -> bool
@@ -97,25 +102,29 @@ fn is_all_white(bytes: &[u8]) -> bool
 
 /// The token behind a `<`.
 #[tactic(auto, unfolding(crate::specs::Tokens::markup_at))]
-fn markup_at(alloc: Global, text: &str) -> Result<(Token, &str), MultiError>
+fn markup_at<'a>(
+    alloc: Global,
+    arena: &'a Bump,
+    text: &'a str,
+) -> Result<(Token<'a>, &'a str), MultiError>
     ensures found { Gives (λ found. (found.0, found.1.now)) result (spec.markup_at text.now) }
     ensures shorter { IfOk result (λ found. length found.1.now ≤ length text.now) }
 {
     if let Some(rest) = stripped(text, "!") {
-        return declared_at(alloc, rest);
+        return declared_at(arena, rest);
     }
     if let Some(rest) = stripped(text, "?") {
         return instruction_at(rest);
     }
     match stripped(text, "/") {
-        Some(rest) => close_at(alloc, rest),
-        None => tag_at(alloc, text),
+        Some(rest) => close_at(rest),
+        None => tag_at(alloc, arena, text),
     }
 }
 
 /// The token behind `<!`.
 #[tactic(auto, unfolding(crate::specs::Tokens::declared_at))]
-fn declared_at(alloc: Global, text: &str) -> Result<(Token, &str), MultiError>
+fn declared_at<'a>(arena: &'a Bump, text: &'a str) -> Result<(Token<'a>, &'a str), MultiError>
     ensures found { Gives (λ found. (found.0, found.1.now)) result (spec.declared_at text.now) }
     ensures shorter { IfOk result (λ found. length found.1.now ≤ length text.now) }
 {
@@ -123,14 +132,14 @@ fn declared_at(alloc: Global, text: &str) -> Result<(Token, &str), MultiError>
         return comment_at(rest);
     }
     match stripped(text, "[CDATA[") {
-        Some(rest) => section_at(alloc, rest),
+        Some(rest) => section_at(arena, rest),
         None => Err(MultiError::Bad),
     }
 }
 
 /// A comment, behind `<!--`.
 #[tactic(auto, unfolding(crate::specs::Tokens::comment_at))]
-fn comment_at(text: &str) -> Result<(Token, &str), MultiError>
+fn comment_at(text: &str) -> Result<(Token<'_>, &str), MultiError>
     ensures found { Gives (λ found. (found.0, found.1.now)) result (spec.comment_at text.now) }
     ensures shorter { IfOk result (λ found. length found.1.now ≤ length text.now) }
 {
@@ -141,18 +150,18 @@ fn comment_at(text: &str) -> Result<(Token, &str), MultiError>
 
 /// A CDATA section, behind `<![CDATA[`.
 #[tactic(auto, unfolding(crate::specs::Tokens::section_at))]
-fn section_at(alloc: Global, text: &str) -> Result<(Token, &str), MultiError>
+fn section_at<'a>(arena: &'a Bump, text: &'a str) -> Result<(Token<'a>, &'a str), MultiError>
     ensures found { Gives (λ found. (found.0, found.1.now)) result (spec.section_at text.now) }
     ensures shorter { IfOk result (λ found. length found.1.now ≤ length text.now) }
 {
     let (inside, rest) = parts_at(text, "]]>")?;
-    let chars = line_ends(alloc, inside)?;
-    Ok((Token::Chars(chars), rest))
+    let chars = line_ends(arena, inside)?;
+    Ok((Token::Chars(Lent::of(chars)), rest))
 }
 
 /// A processing instruction, behind `<?`.
 #[tactic(auto, unfolding(crate::specs::Tokens::instruction_at))]
-fn instruction_at(text: &str) -> Result<(Token, &str), MultiError>
+fn instruction_at(text: &str) -> Result<(Token<'_>, &str), MultiError>
     ensures found { Gives (λ found. (found.0, found.1.now)) result (spec.instruction_at text.now) }
     ensures shorter { IfOk result (λ found. length found.1.now ≤ length text.now) }
 {
@@ -177,23 +186,27 @@ fn is_target(target: &str, behind: &[u8]) -> bool
 
 /// An end tag, behind `</`.
 #[tactic(auto, unfolding(crate::specs::Tokens::close_at))]
-fn close_at(alloc: Global, text: &str) -> Result<(Token, &str), MultiError>
+fn close_at(text: &str) -> Result<(Token<'_>, &str), MultiError>
     ensures found { Gives (λ found. (found.0, found.1.now)) result (spec.close_at text.now) }
     ensures shorter { IfOk result (λ found. length found.1.now ≤ length text.now) }
 {
-    let (name, behind) = name_at(alloc, text)?;
+    let (name, behind) = name_at(text)?;
     let rest = behind_mark(past_white(behind), ">")?;
     Ok((Token::Close(name), rest))
 }
 
 /// A start tag or an empty-element tag, behind `<`.
 #[tactic(auto, unfolding(crate::specs::Tokens::tag_at))]
-fn tag_at(alloc: Global, text: &str) -> Result<(Token, &str), MultiError>
+fn tag_at<'a>(
+    alloc: Global,
+    arena: &'a Bump,
+    text: &'a str,
+) -> Result<(Token<'a>, &'a str), MultiError>
     ensures found { Gives (λ found. (found.0, found.1.now)) result (spec.tag_at text.now) }
     ensures shorter { IfOk result (λ found. length found.1.now ≤ length text.now) }
 {
-    let (name, behind) = name_at(alloc, text)?;
-    let found = tag_rest(alloc, behind)?;
+    let (name, behind) = name_at(text)?;
+    let found = tag_rest(alloc, arena, behind)?;
     let tag = Tag {
         name,
         attributes: found.attributes,

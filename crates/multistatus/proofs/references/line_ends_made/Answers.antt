@@ -2,15 +2,15 @@ use Rattle.std.proofs.Common.{◌++◌, ◌∷◌, [], ◌∙◌, ap}
 use Rattle.std.specs.String.{string_bytes}
 use Rattle.multistatus.specs.Texts.{line_ends}
 use Rattle.multistatus.proofs.Escapes.{ends_first, ends_last, ends_next}
-use Rattle.multistatus.proofs.references.line_ends.Goals as goal
+use Rattle.multistatus.proofs.references.line_ends_made.Goals as goal
 
 pub lines-init : goal.lines-init
-lines-init c = (c.utf8.text, ends_first (string_bytes c.new-made.result) c.args.text.now c.new-made.ensures.bytes)
+lines-init c = (c.utf8.text, ends_first (string_bytes c.in_ok-made.made) c.args.text.now c.in_ok-made.ensures.bytes)
 
 pub returns-in_default : goal.returns-in_default
 unfolding line_ends
 returns-in_default c =
-    ends_last (string_bytes c.lines.made) c.lines.rest.now c.args.text.now c.of.result c.lines.invariant.1 c.in_default.ensures.found (c.of.ensures ∙ c.in_ok-push_str.ensures.bytes)
+    ends_last (string_bytes c.lines.made) c.lines.rest.now c.args.text.now c.into_bump_str.result.now c.lines.invariant.1 c.in_default.ensures.found (c.into_bump_str.ensures ∙ c.in_ok-push_str.ensures.bytes)
 
 pub lines-preserved : goal.lines-preserved
 lines-preserved c = (

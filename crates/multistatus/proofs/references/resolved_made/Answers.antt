@@ -3,14 +3,14 @@ use Rattle.std.specs.Prelude.{encode_utf8}
 use Rattle.std.specs.String.{string_bytes}
 use Rattle.multistatus.specs.Texts.{resolved_text}
 use Rattle.multistatus.proofs.Escapes.{refers_first, refers_last, refers_unended, refers_unknown, refers_next}
-use Rattle.multistatus.proofs.references.resolved.Goals as goal
+use Rattle.multistatus.proofs.references.resolved_made.Goals as goal
 
 pub references-init : goal.references-init
-references-init c = (c.utf8.text, refers_first _ c.args.text.now c.new-made.ensures.bytes)
+references-init c = (c.utf8.text, refers_first _ c.args.text.now c.in_ok-made.ensures.bytes)
 
 pub returns-in_default : goal.returns-in_default
 unfolding resolved_text
-returns-in_default c = refers_last (string_bytes c.references.made) c.references.rest.now c.args.text.now c.of.result c.references.invariant.1 c.in_default.ensures.found (c.of.ensures ∙ c.in_ok-push_str.ensures.bytes)
+returns-in_default c = refers_last (string_bytes c.references.made) c.references.rest.now c.args.text.now c.into_bump_str.result.now c.references.invariant.1 c.in_default.ensures.found (c.into_bump_str.ensures ∙ c.in_ok-push_str.ensures.bytes)
 
 pub returns-in_default-cut : goal.returns-in_default-cut
 unfolding resolved_text

@@ -3,4 +3,4 @@ use Rattle.multistatus.proofs.Runs.{emptied-is}
 use Rattle.multistatus.proofs.reader.Reader.behind_empty.Goals as goal
 
 pub returns : goal.returns
-returns c = rw (emptied-is (state_of c.args.self) (state_of c.in_ok-inside.inside) c.args.tag c.in_ok-name.name c.in_ok-inside.ensures c.in_ok-name.ensures) c.behind_close.ensures
+returns c = rw (emptied-is (state_of c.args.self) (state_of c.in_ok-inside.inside) c.args.tag c.in_ok-inside.ensures) c.behind_end.ensures
