@@ -2,6 +2,7 @@ pub mod Ascii
 pub mod Before
 pub mod Collected
 pub mod Cuts
+pub mod Founds
 pub mod Groups
 pub mod Held
 pub mod Refusals

@@ -4,6 +4,7 @@ pub mod Flaws
 pub mod Grouping
 pub mod Lines
 pub mod Logical
+pub mod Meanings
 pub mod Repeats
 pub mod Sections
 pub mod Seen
