@@ -5,4 +5,6 @@
 #[cfg(test)]
 mod items;
 #[cfg(test)]
+mod multistatus_replies;
+#[cfg(test)]
 mod names;

@@ -283,10 +283,7 @@ fn ended_in<'a>(
     }
 }
 
-fn root_ended<'a>(
-    outside: Sequence<Level<'a>>,
-    frame: Frame<'a>,
-) -> Result<Reader<'a>, MultiError>
+fn root_ended<'a>(outside: Sequence<Level<'a>>, frame: Frame<'a>) -> Result<Reader<'a>, MultiError>
     requires { outside ≡ [] }
     ensures { Gives (λ r. spec.state_of r) result (spec.root_ended frame.entry) }
 {

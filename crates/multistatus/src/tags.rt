@@ -154,10 +154,7 @@ fn value_of<'a>(arena: &'a Bump, piece: &'a str) -> Result<&'a str, MultiError>
 
 /// An attribute at the front, and what follows it.
 #[tactic(auto, unfolding(crate::specs::Tags::attribute_at))]
-fn attribute_at<'a>(
-    arena: &'a Bump,
-    text: &'a str,
-) -> Result<(Attribute<'a>, &'a str), MultiError>
+fn attribute_at<'a>(arena: &'a Bump, text: &'a str) -> Result<(Attribute<'a>, &'a str), MultiError>
     ensures found { Gives (λ found. (found.0, found.1.now)) result (spec.attribute_at text.now) }
     ensures shorter { IfOk result (λ found. length found.1.now < length text.now) }
 {
