@@ -5,6 +5,16 @@
 #[cfg(test)]
 mod items;
 #[cfg(test)]
+mod memory_folder;
+#[cfg(test)]
+mod memory_streams;
+#[cfg(test)]
 mod multistatus_replies;
 #[cfg(test)]
 mod names;
+#[cfg(test)]
+mod outfits;
+#[cfg(test)]
+mod real_folder;
+#[cfg(test)]
+mod std_streams;
