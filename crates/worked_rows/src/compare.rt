@@ -267,11 +267,11 @@ impl Comparison<'_> {
 }
 
 /// All that differs, in the order: exit status, what was printed, places, own writes and reads.
-pub fn differences(
+pub fn differences<'a>(
     alloc: Global,
-    before: &Places,
-    wanted: &Wanted,
-    ran: &Ran,
+    before: &'a Places,
+    wanted: &'a Wanted,
+    ran: &'a Ran,
 ) -> Result<Vec<Difference>, AllocError> {
     let mut comparison = Comparison {
         alloc,

@@ -84,21 +84,35 @@ fn sheet_names(rt: &HostRuntime) -> io::Result<Vec<String>> {
 fn read_sheet(rt: &HostRuntime, file: &str, texts: &mut Texts) -> Result<Sheet, RowError> {
     let alloc = rt.alloc();
     let text = fs::read_to_string(rt, file)?;
-    let form: SheetForm = match serde_json::from_str(alloc, text.as_str()) {
-        Ok(form) => form,
-        Err(error) => return Err(RowError::NotOfTheForm(format!(in alloc; "{error}")?)),
-    };
-    for (name, text) in form.texts.iter().flat_map(|given| given.list.iter()) {
-        texts.add(name.as_str(), text)?;
-    }
+    let form = parsed(alloc, text.as_str())?;
+    add_texts(texts, &form)?;
     Ok(Sheet {
         file: String::from_str(alloc, file)?,
         verdict: form.comes_out.unwrap_or(Verdict::Ok),
-        rows: match form.rows {
-            Some(rows) => rows,
-            None => Vec::new(alloc),
-        },
+        rows: form.rows.unwrap_or(Vec::new(alloc)),
     })
+}
+
+/// What a file says.
+fn parsed(alloc: Global, text: &str) -> Result<SheetForm, RowError> {
+    match serde_json::from_str(alloc, text) {
+        Ok(form) => Ok(form),
+        Err(error) => match format!(in alloc; "{error}") {
+            Ok(said) => Err(RowError::NotOfTheForm(said)),
+            Err(error) => Err(RowError::from(error)),
+        },
+    }
+}
+
+/// Adds the texts of a file to the others.
+fn add_texts(texts: &mut Texts, form: &SheetForm) -> Result<(), RowError> {
+    let Some(given) = &form.texts else {
+        return Ok(());
+    };
+    for (name, text) in &given.list {
+        texts.add(name.as_str(), text)?;
+    }
+    Ok(())
 }
 
 /// Looks at each row of a file, so that none is run where one isn't of the form.
