@@ -13,3 +13,6 @@ pub use file_keeper::FileKeeper;
 pub use keeper::{Keeper, KeeperError};
 pub use name::status_name;
 pub use row::Row;
+
+#[cfg(test)]
+mod tests;
