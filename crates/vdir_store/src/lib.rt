@@ -7,3 +7,6 @@ mod vdir;
 
 pub use names::is_ending;
 pub use vdir::VdirStore;
+
+#[cfg(test)]
+mod tests;
