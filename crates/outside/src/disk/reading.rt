@@ -78,8 +78,8 @@ pub fn etag_at<R: Files + AllocGlobal>(
     let Some(found) = open_file(rt, path)? else {
         return Ok(None);
     };
-    let mut file = found.file;
-    Ok(Some(piece.etag_of_rest(rt.alloc(), &mut file)?))
+    let Found { mut file, len } = found;
+    Ok(Some(piece.etag_of_file(rt.alloc(), &mut file, len)?))
 }
 
 /// Whether a file is there with this etag.
