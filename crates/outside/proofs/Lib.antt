@@ -1,6 +1,7 @@
 pub mod EtagLemmas
 pub mod FileMapLemmas
 pub mod FolderLemmas
+pub mod ForetoldLemmas
 pub mod KnownBytes
 pub mod PlacedLemmas
 pub mod Results

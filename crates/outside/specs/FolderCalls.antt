@@ -103,5 +103,11 @@ MakeAnswer m t (Err TooLong) = ⊥
 -- an error and its cause: a Fault comes only where the count rose
 abbrev pub FolderCause : Type 0 → FolderError → Type 0
 FolderCause rose Fault = rose
-FolderCause rose TooLong = Unit {0}
+FolderCause rose TooLong = ⊥
 FolderCause rose NoMemory = Unit {0}
+
+-- a reading alone may find a file too long
+abbrev pub ReadCause : Type 0 → FolderError → Type 0
+ReadCause rose Fault = rose
+ReadCause rose TooLong = Unit {0}
+ReadCause rose NoMemory = Unit {0}

@@ -4,6 +4,7 @@ pub mod FileMap
 pub mod FileMapEmpty
 pub mod Files
 pub mod FolderCalls
+pub mod Foretold
 pub mod MemFolder
 pub mod Places
 pub mod Plans

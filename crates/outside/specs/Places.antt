@@ -1,15 +1,16 @@
 -- The places of an outfit: what stands at each location, and what opening and giving back change (this project's own).
-use Rattle.std.specs.Prelude.{◌≡◌, ◌≢◌, ℕ, false, List, [], Contains, Option, Some, None, Result, Ok, Err}
+use Rattle.std.specs.Prelude.{◌≡◌, ◌≢◌, ℕ, Bool, false, List, [], Contains, Option, Some, None, Result, Ok, Err}
 use Rattle.outside.specs.declared.folder.NoMemory.{NoMemory}
 use Rattle.outside.specs.Files.{FolderState, is_new}
 
--- what is known of a folder: its count of faults, and its state, which says something where it is told
+-- what is known of a folder: its count of faults, which calls are to fail, and its state, which says something where it is told
 pub record Place : Type 0 where
   pub faults : ℕ
+  pub foretold : Option (ℕ → Bool)
   pub state : FolderState
 
-abbrev pub place_by : {D : Type 0} → (D → ℕ) → (D → FolderState) → D → Place
-place_by count state d = record { faults = count d; state = state d }
+abbrev pub place_by : {D : Type 0} → (D → ℕ) → (D → Option (ℕ → Bool)) → (D → FolderState) → D → Place
+place_by count foretold state d = record { faults = count d; foretold = foretold d; state = state d }
 
 -- at each location stands what stood there
 abbrev pub IsSame : {P : Type 0} → (List ℕ → Option P) → (List ℕ → Option P) → Type 0
@@ -45,9 +46,17 @@ pub record GiveTold (old new : List ℕ → Type 0) (path : List ℕ) (is_told :
   pub here : is_told → new path
   pub others : (q : List ℕ) → q ≢ path → old q → new q
 
--- a folder that isn't there, without files and faults
+-- a folder that isn't there, of which no call has failed
+abbrev pub absent_place : Option (ℕ → Bool) → Place
+absent_place foretold = record { faults = 0; foretold = foretold; state = is_new false [] [] }
+
+-- no call of it fails
 abbrev pub blank_place : Place
-blank_place = record { faults = 0; state = is_new false [] [] }
+blank_place = absent_place (Some (λ n. false))
+
+-- nothing is told of its calls
+abbrev pub untold_place : Place
+untold_place = absent_place None
 
 -- at each location of a list stands what was put there, and everywhere else a blank
 pub record StandAs {D P : Type 0} (place_of : D → P) (blank : P) (dirs : List (List ℕ × D)) (places : List ℕ → Option P) : Type 0 where

@@ -56,9 +56,12 @@ impl<R: Files + AllocGlobal + Clone + Drop> DirFolder<R> {
 }
 
 impl<R: Files + AllocGlobal + Clone + Drop> Folder for DirFolder<R> {
+    ghost use Rattle.std.specs.Prelude.{None};
     ghost use Rattle.outside.specs.Files.{nothing_told};
 
     ghost count = { λ d. d.faults.count };
+
+    ghost foretold = { λ _. None };
 
     ghost tells = { λ _. ⊥ };
 

@@ -18,12 +18,12 @@ pub trait Outfit {
 
     /// Opens the folder at a location. `None` where it is out already.
     fn open_dir(&mut self, path: &str) -> Result<Option<Self::Dir>, NoMemory>
-        ensures opened { OpenAnswer (place_by Self.Dir.count Self.Dir.state) (places self.old) (places self.new) path.now result }
+        ensures opened { OpenAnswer (place_by Self.Dir.count Self.Dir.foretold Self.Dir.state) (places self.old) (places self.new) path.now result }
         ensures told { OpenTold Self.Dir.tells (tells self.old) (tells self.new) path.now result };
 
     /// Puts a folder back. Takes no memory: the call that opened the place made the room.
     fn give_dir(&mut self, path: &str, dir: Self::Dir)
         requires { places self.old path.now ≡ None }
-        ensures given { ChangesOnly (places self.old) (places self.new) path.now (Some (place_by Self.Dir.count Self.Dir.state dir)) }
+        ensures given { ChangesOnly (places self.old) (places self.new) path.now (Some (place_by Self.Dir.count Self.Dir.foretold Self.Dir.state dir)) }
         ensures told { GiveTold (tells self.old) (tells self.new) path.now (Self.Dir.tells dir) };
 }

@@ -1,7 +1,8 @@
 //! The calls of a device in memory, numbered, with what its plan says of each.
 
-ghost use Rattle.std.specs.Prelude.{◌≡◌, ◌≤◌, ◌+◌, ◌-◌, ◌^◌, min};
-ghost use Rattle.outside.specs.Plans.{fate_of, HasCause};
+ghost use Rattle.std.specs.Prelude.{◌≡◌, ◌≤◌, ◌+◌, ◌-◌, ◌^◌, min, false};
+ghost use Rattle.outside.specs.Foretold.{GoesBy};
+ghost use Rattle.outside.specs.Plans.{fate_of, foretold_by, CountsFate};
 
 use crate::faults::Faults;
 use crate::plan::{Fate, FaultPlan};
@@ -31,13 +32,12 @@ impl Planned {
         ensures calls { self.new.calls ≡ min (self.old.calls + 1) (2 ^ 64 - 1) }
         ensures later { self.old.faults.count ≤ self.new.faults.count }
         ensures fate { result ≡ fate_of self.old.plan self.new.calls }
-        ensures cause { HasCause result self.old.faults.count self.new.faults.count }
+        ensures counted { CountsFate result self.old.faults.count self.new.faults.count }
+        ensures goes { GoesBy false (foretold_by self.old.plan self.old.calls) (foretold_by self.new.plan self.new.calls) self.old.faults.count self.new.faults.count }
     {
         self.calls = self.calls.saturating_add(1);
         let fate = self.plan.fate(self.calls);
-        if fate != Fate::Acts {
-            self.faults.raise();
-        }
+        self.faults.follow(fate);
         fate
     }
 }

@@ -1,4 +1,4 @@
-//! Slots under locations: what each outfit is made of.
+//! Slots under locations, of which each outfit is made.
 
 ghost use Rattle.std.specs.Prelude.{◌≡◌, ◌<◌, length, ℕ, IfOk, IfSome, IfNone};
 ghost use Rattle.outside.specs.Slots.{IsAbsent, IsAt};
@@ -9,7 +9,7 @@ use std::alloc::Global;
 use values::Text;
 
 /// Makes the folder of a location that nothing was put at.
-pub trait Blank<D: Folder> {
+pub trait Maker<D: Folder> {
     ghost use Rattle.outside.specs.Places.{Place, place_by};
 
     /// What such a folder is.
@@ -19,7 +19,7 @@ pub trait Blank<D: Folder> {
     ghost blank_tells: { Type 0 };
 
     fn blank(&self, alloc: Global, path: &str) -> Result<D, NoMemory>
-        ensures place { IfOk result (λ dir. place_by D.count D.state dir ≡ blank_place) }
+        ensures place { IfOk result (λ dir. place_by D.count D.foretold D.state dir ≡ blank_place) }
         ensures told { IfOk result (λ dir. blank_tells → D.tells dir) };
 }
 
@@ -66,13 +66,13 @@ impl<D, M> SlotOutfit<D, M> {
     }
 }
 
-impl<D: Folder + Drop + Send, M: Blank<D>> Outfit for SlotOutfit<D, M> {
+impl<D: Folder + Drop + Send, M: Maker<D>> Outfit for SlotOutfit<D, M> {
     ghost use Rattle.outside.specs.Places.{place_by};
     ghost use Rattle.outside.specs.Slots.{places_of, tells_of};
 
     type Dir = D;
 
-    ghost places = { λ o. places_of (place_by D.count D.state) M.blank_place o.slots.items };
+    ghost places = { λ o. places_of (place_by D.count D.foretold D.state) M.blank_place o.slots.items };
 
     ghost tells = { λ o. tells_of D.tells M.blank_tells o.slots.items };
 

@@ -14,10 +14,15 @@ pub struct SinkFault;
 
 /// Bytes that come in, once each, from the first to the last.
 pub trait Source {
+    ghost use Rattle.std.specs.Prelude.{Bool, Option, false};
+    ghost use Rattle.outside.specs.Foretold.{GoesBy};
     ghost use Rattle.outside.specs.StreamCalls.{ReadAnswer};
 
     /// The count of faults.
     ghost count: { Self → ℕ };
+
+    /// Which of the calls from now on fail, the first of them being 0, where it is told beforehand.
+    ghost foretold: { Self → Option (ℕ → Bool) };
 
     /// Whether contracts can see the bytes that are left.
     ghost tells: { Self → Type 0 };
@@ -34,16 +39,26 @@ pub trait Source {
     fn read(&mut self, piece: &mut [u8]) -> Result<usize, SourceFault>
         ensures later { count self.old ≤ count self.new }
         ensures cause { IsErr result → Rose (count self.old) (count self.new) }
+        ensures goes { GoesBy false (foretold self.old) (foretold self.new) (count self.old) (count self.new) }
         ensures fits { IfOk result (λ n. n ≤ length piece.old) }
         ensures told { tells self.old → tells self.new × ReadAnswer (left self.old) (left self.new) piece.old piece.new result };
 }
 
 /// Where bytes go.
 pub trait Sink {
+    ghost use Rattle.std.specs.Prelude.{Bool, Option};
+    ghost use Rattle.outside.specs.Foretold.{GoesBy, is_full, TakesFitting};
     ghost use Rattle.outside.specs.StreamCalls.{WriteAnswer};
 
     /// The count of faults.
     ghost count: { Self → ℕ };
+
+    /// Which of the calls from now on fail, the first of them being 0, where it is told beforehand. A full sink
+    /// fails besides.
+    ghost foretold: { Self → Option (ℕ → Bool) };
+
+    /// How many bytes it can hold, where that is told.
+    ghost room: { Self → Option ℕ };
 
     /// Whether contracts can see the bytes that it holds.
     ghost tells: { Self → Type 0 };
@@ -59,6 +74,9 @@ pub trait Sink {
     fn write(&mut self, piece: &[u8]) -> Result<usize, SinkFault>
         ensures later { count self.old ≤ count self.new }
         ensures cause { IsErr result → Rose (count self.old) (count self.new) }
+        ensures goes { GoesBy (is_full (room self.old) (held self.old) piece.now) (foretold self.old) (foretold self.new) (count self.old) (count self.new) }
+        ensures stays { room self.new ≡ room self.old }
+        ensures takes { IfOk result (λ n. TakesFitting (room self.old) (held self.old) piece.now n) }
         ensures fits { IfOk result (λ n. n ≤ length piece.now) }
         ensures some { IfOk result (λ n. 0 < length piece.now → 0 < n) }
         ensures told { tells self.old → tells self.new × WriteAnswer (held self.old) (held self.new) piece.now result };
