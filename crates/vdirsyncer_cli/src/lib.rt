@@ -1,4 +1,4 @@
-//! The command line: its words, its configuration, its printed texts, and the top call.
+//! The command line: its words, its configuration, and the top call.
 #![tactic(auto)]
 
 mod config;
@@ -10,11 +10,11 @@ mod opened;
 mod paths;
 mod printing;
 mod reader;
+mod refused_config;
 #[cfg(test)]
 mod run_tests;
 #[cfg(test)]
 mod tests;
-mod texts;
 mod top_call;
 mod words;
 

@@ -1,10 +1,13 @@
 use crate::config::ConfigError;
 use crate::paths::{normalised, status_place};
 use crate::reader::read_config;
-use crate::texts::{config_text, exit_status, report_text};
-use crate::words::{Words, folder_of, name_of, read_words, usage};
+use crate::refused_config::config_text;
+use crate::words::{Words, folder_of, name_of, read_words};
+use cli_text::{exit_status, report_text};
+use cli_words::usage;
 use item_text::ItemError;
 use std::alloc::Global;
+use std::slice::from_ref;
 use std::test::Fail;
 use store_model::StoreError;
 use sync_plan::{JobEnd, Line, Refusal, Report, Side, What};
@@ -71,7 +74,7 @@ fn refusals_are_printed(rt: HostRuntime) -> Result<(), Fail> {
         report_text(alloc, "p", &absent)?.as_str(),
         "p: refused: storage b: not there\n"
     );
-    assert_eq!(rt; exit_status(&absent, false), 1);
+    assert_eq!(rt; exit_status(from_ref(&absent), false), 1);
     let twice = refused(
         alloc,
         Refusal::SameIdent {
@@ -111,8 +114,8 @@ fn lines_are_printed(rt: HostRuntime) -> Result<(), Fail> {
         lines: Vec::new(alloc),
     };
     assert_eq!(rt; report_text(alloc, "p", &clean)?.as_str(), "");
-    assert_eq!(rt; exit_status(&clean, false), 0);
-    assert_eq!(rt; exit_status(&clean, true), 1);
+    assert_eq!(rt; exit_status(from_ref(&clean), false), 0);
+    assert_eq!(rt; exit_status(from_ref(&clean), true), 1);
     lines.push(Line {
         ident: text(alloc, "x")?,
         what: What::NotWritten {
@@ -128,7 +131,7 @@ fn lines_are_printed(rt: HostRuntime) -> Result<(), Fail> {
         report_text(alloc, "p", &report)?.as_str(),
         "p: \"x\": not written to b: fault\n"
     );
-    assert_eq!(rt; exit_status(&report, false), 1);
+    assert_eq!(rt; exit_status(from_ref(&report), false), 1);
     let starved = Report {
         end: JobEnd::NoMemory,
         lines: Vec::new(alloc),
@@ -137,7 +140,7 @@ fn lines_are_printed(rt: HostRuntime) -> Result<(), Fail> {
         report_text(alloc, "p", &starved)?.as_str(),
         "p: out of memory\n"
     );
-    assert_eq!(rt; exit_status(&starved, true), 3);
+    assert_eq!(rt; exit_status(from_ref(&starved), true), 3);
     Ok(())
 }
 
