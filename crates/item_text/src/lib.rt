@@ -15,6 +15,3 @@ mod words;
 pub use fp::{Fp, fp_hex, fp_of_hex};
 pub use item::{Item, ItemError, MAX_ITEM};
 pub use plain::is_plain;
-
-#[cfg(test)]
-mod tests;

@@ -13,6 +13,3 @@ pub use file_keeper::FileKeeper;
 pub use keeper::{Keeper, KeeperError};
 pub use name::status_name;
 pub use row::Row;
-
-#[cfg(test)]
-mod tests;

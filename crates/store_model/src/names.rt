@@ -93,38 +93,3 @@ pub fn free_name(
     // That many names don't fit into any memory.
     Err(NoMemory)
 }
-
-#[cfg(test)]
-mod tests {
-    use super::{file_stem, free_name};
-    use std::collections::BTreeSet;
-    use std::test::Fail;
-
-    #[test]
-    fn a_plain_ident_is_its_stem(rt: HostRuntime) -> Result<(), Fail> {
-        let stem = file_stem(rt.alloc(), "x")?;
-        assert_eq!(rt; stem.as_str(), "x");
-        Ok(())
-    }
-
-    // printf %s a/b | sha256sum
-    #[test]
-    fn another_ident_is_hashed(rt: HostRuntime) -> Result<(), Fail> {
-        let stem = file_stem(rt.alloc(), "a/b")?;
-        assert_eq!(rt;
-            stem.as_str(),
-            "c14cddc033f64b9dea80ea675cf280a015e672516090a5626781153dc68fea11"
-        );
-        Ok(())
-    }
-
-    #[test]
-    fn a_taken_name_is_passed_over(rt: HostRuntime) -> Result<(), Fail> {
-        let alloc = rt.alloc();
-        let mut taken = BTreeSet::new(alloc);
-        taken.insert(String::from_str(alloc, "x.vcf")?)?;
-        let name = free_name(alloc, "x", ".vcf", &taken)?;
-        assert_eq!(rt; name.as_str(), "x-1.vcf");
-        Ok(())
-    }
-}

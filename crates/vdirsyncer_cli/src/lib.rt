@@ -10,10 +10,6 @@ mod opened;
 mod paths;
 mod printing;
 mod reader;
-#[cfg(test)]
-mod run_tests;
-#[cfg(test)]
-mod tests;
 mod texts;
 mod top_call;
 mod words;
