@@ -56,20 +56,6 @@ still {Kind} {s} f edits same = subst (λ (x : FolderState). Evolves Kind s x) (
 then_one : {Kind : FolderEvent → Type 0} {s m t : FolderState} (e : FolderEvent) → ((e : FolderEvent) → IsOutside e → Kind e) → Evolves IsOutside s m → Kind e → IsTrueEvent m e → t ≡ happens m e → Evolves Kind s t
 then_one {Kind} {s} {m} e f edits kind is_true same = subst (λ (x : FolderState). Evolves Kind s x) (sym same) (Runs-trans (Runs-weaker f edits) (Runs-one m e kind is_true))
 
-pub names_run : (s m t : FolderState) (ending : List ℕ) (result : Result (Option (Vec FileEntry Global)) FolderError) → Evolves IsOutside s m → NamesAnswer m t ending result → Evolves IsOutside s t
-names_run s m t ending (Ok None) edits does = still (λ e k. k) edits does.0
-names_run s m t ending (Ok (Some found)) edits does = still (λ e k. k) edits does.0
-names_run s m t ending (Err TooLong) edits does = absurd does
-names_run s m t ending (Err Fault) edits does = still (λ e k. k) edits does
-names_run s m t ending (Err NoMemory) edits does = still (λ e k. k) edits does
-
-pub folders_run : (s m t : FolderState) (result : Result (Option (Vec (List ℕ) Global)) FolderError) → Evolves IsOutside s m → FoldersAnswer m t result → Evolves IsOutside s t
-folders_run s m t (Ok None) edits does = still (λ e k. k) edits does.0
-folders_run s m t (Ok (Some found)) edits does = still (λ e k. k) edits does.0
-folders_run s m t (Err TooLong) edits does = absurd does
-folders_run s m t (Err Fault) edits does = still (λ e k. k) edits does
-folders_run s m t (Err NoMemory) edits does = still (λ e k. k) edits does
-
 pub read_run : (s m t : FolderState) (name : List ℕ) (limit : ℕ) (result : Result (Option (Vec ℕ Global)) FolderError) → Evolves IsOutside s m → ReadAnswer m t name limit result → Evolves (IsReadOf name) s t
 read_run s m t name limit (Ok None) edits does = still (outside_is_read name) edits does.0
 read_run s m t name limit (Ok (Some bytes)) edits does = then_one (Read name bytes.items) (outside_is_read name) edits refl does.0 does.2
@@ -139,21 +125,3 @@ folder_keeps = record {
   reads_grow = λ s e. refl;
   either = λ e h. sym h;
 }
-
--- a folder that isn't there has no files: so it stays, whatever happens
-abbrev pub IsEmptyWhereAbsent : FolderState → Type 0
-IsEmptyWhereAbsent s = s.is_there ≡ false → s.files ≡ fin.empty
-
-absent_step : (s : FolderState) (e : FolderEvent) → IsTrueEvent s e → IsEmptyWhereAbsent s → IsEmptyWhereAbsent (happens s e)
-absent_step s (Edited name old new) h law absent = absurd (let clash : true ≡ false = sym h.0 ∙ absent in cc)
-absent_step s (Wrote name old new) h law absent = absurd (let clash : true ≡ false = sym h.0 ∙ absent in cc)
-absent_step s (Read name bytes) h law absent = law absent
-absent_step s Toggled h law absent = h
-absent_step s Made h law absent = absurd (let clash : true ≡ false = absent in cc)
-
-absent_by : (Kind : FolderEvent → Type 0) (s t : FolderState) (es : List FolderEvent) → Leads happens IsTrueEvent Kind s es t → IsEmptyWhereAbsent s → IsEmptyWhereAbsent t
-absent_by Kind s t [] leads law = subst IsEmptyWhereAbsent (sym leads) law
-absent_by Kind s t (e ∷ es) leads law = absent_by Kind (happens s e) t es leads.2 (absent_step s e leads.1 law)
-
-pub absent_stays_empty : {Kind : FolderEvent → Type 0} {s t : FolderState} → Evolves Kind s t → IsEmptyWhereAbsent s → IsEmptyWhereAbsent t
-absent_stays_empty {Kind} {s} {t} run law = absent_by Kind s t run.events run.leads law
