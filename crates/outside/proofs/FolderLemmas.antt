@@ -1,13 +1,11 @@
 -- What each answer of a folder says of its run.
-use Rattle.std.proofs.Common.{ℕ, inl, inr, Bool, true, false, Option, Some, None, Result, Ok, Err, ◌≡◌, List, [], ◌∷◌, refl, sym, ◌∙◌, subst}
-use Rattle.outside.specs.Runs.{Leads}
+use Rattle.std.proofs.Common.{ℕ, inl, inr, Bool, true, false, Option, Some, None, Result, Ok, Err, ◌≡◌, List, [], refl, sym, subst}
 use Rattle.std.specs.Prelude.{◌&&◌, if◌then◌else◌}
 use Rattle.std.specs.FinMap as fin
 use Rattle.std.specs.declared.vec.Vec.{Vec}
 use Rattle.std.specs.declared.alloc.Global.{Global}
 use Rattle.outside.specs.declared.folder.FolderEvent.{FolderEvent}
 use Rattle.outside.specs.declared.folder.FolderEvent.TheVariants.{Edited, Toggled, Wrote, Read, Made}
-use Rattle.outside.specs.declared.folder.FileEntry.{FileEntry}
 use Rattle.outside.specs.declared.folder.FolderError.{FolderError}
 use Rattle.outside.specs.declared.folder.FolderError.TheVariants.{Fault, TooLong, NoMemory}
 use Rattle.outside.specs.declared.folder.Change.{Change}
@@ -15,7 +13,7 @@ use Rattle.outside.specs.declared.folder.Change.TheVariants.{Done, Moved}
 use Rattle.outside.specs.declared.folder.Expect.{Expect}
 use Rattle.outside.specs.declared.folder.Expect.TheVariants.{Absent, Etag}
 use Rattle.outside.specs.Files.{FolderState, happens, IsTrueEvent, Evolves, IsOutside, IsReadOf, IsWriteOf, IsMaking}
-use Rattle.outside.specs.FolderCalls.{NamesAnswer, FoldersAnswer, ReadAnswer, ReplaceAnswer, RemoveAnswer, MakeAnswer, meets}
+use Rattle.outside.specs.FolderCalls.{ReadAnswer, ReplaceAnswer, RemoveAnswer, MakeAnswer, meets}
 use Rattle.outside.proofs.Runs.{Runs-trans, Runs-weaker, Runs-one, KeepsEvents}
 
 -- a conditional write that acted, or was refused, and whose answer was lost

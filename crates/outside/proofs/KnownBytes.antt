@@ -1,7 +1,7 @@
 -- What is known of the bytes of a stream of std, call after call.
-use Rattle.std.proofs.Common.{◌≡◌, ℕ, ◌<◌, List, [], ◌++◌, take, drop, length, Option, Some, None, Result, Ok, Err, sym, ◌∙◌, ap, refl, subst}
+use Rattle.std.proofs.Common.{◌≡◌, ℕ, ◌<◌, List, [], ◌++◌, take, drop, length, Option, Some, None, Ok, Err, sym, ◌∙◌, ap, refl, subst}
 use Rattle.std.specs.Prelude.{IsSome, unwrap_or, false, true}
-use Rattle.std.specs.Io.KnownBytes.{Keeps, Appends, Consumes, IsAtEnd, ReadConsumes}
+use Rattle.std.specs.Io.KnownBytes.{Keeps, Appends, Consumes, IsAtEnd}
 use Rattle.std.proofs.lemmas.List.{take-append-drop, append-nil}
 use Rattle.outside.specs.declared.streams.SourceFault.{SourceFault}
 use Rattle.outside.specs.declared.streams.SinkFault.{SinkFault}

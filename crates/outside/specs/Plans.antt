@@ -41,6 +41,11 @@ next course = record { plan = course.plan; calls = next_call course }
 abbrev pub next_fate : Course → Fate
 next_fate course = fate_of course.plan (next_call course)
 
+-- no call is to fail
+abbrev pub IsQuiet : Option Course → Type 0
+IsQuiet None = ⊥
+IsQuiet (Some course) = (call : ℕ) → fate_of course.plan call ≡ Acts
+
 -- the count rises by one exactly where the call is to fail
 abbrev pub CountsFate : Fate → ℕ → ℕ → Type 0
 CountsFate Acts before now = now ≡ before

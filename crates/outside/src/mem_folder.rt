@@ -5,7 +5,7 @@ mod looking;
 ghost use Rattle.std.specs.Prelude.{◌≡◌, ◌≤◌, true, false, IfOk, OnOk, vec_len, Some};
 ghost use Rattle.outside.specs.Shelf.{state_of};
 ghost use Rattle.outside.specs.MemFolder.{after_due, after_edits};
-ghost use Rattle.outside.specs.Plans.{Course, begun, next, next_call, next_fate, CountsFate};
+ghost use Rattle.outside.specs.Plans.{begun, next, next_call, next_fate, CountsFate};
 ghost use Rattle.outside.specs.Planned.{course_of};
 ghost use Rattle.outside.specs.Files.{Evolves, IsOutside};
 

@@ -113,7 +113,7 @@ impl MemSink {
     fn is_full(&self, piece: &[u8]) -> bool
         ensures { result ≡ is_full (Some self.now.room) self.now.bytes.items piece.now }
     {
-        !piece.is_empty() && self.bytes.len() >= self.room
+        self.bytes.len() >= self.room && !piece.is_empty()
     }
 
     /// Adds as many bytes of a piece as still fit, and gives how many.

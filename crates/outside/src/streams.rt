@@ -1,8 +1,9 @@
 //! Sources and sinks of bytes.
 
-ghost use Rattle.std.specs.Prelude.{◌≡◌, ◌≤◌, ◌<◌, ℕ, List, IsErr, IfOk, length};
+ghost use Rattle.std.specs.Prelude.{◌≡◌, ◌≤◌, ◌<◌, ◌-◌, ◌^◌, ℕ, List, IsErr, IfOk, length};
 ghost use Rattle.outside.specs.Causes.{Rose};
-ghost use Rattle.outside.specs.StreamCalls.{WriteAllAnswer};
+ghost use Rattle.outside.specs.Plans.{IsQuiet};
+ghost use Rattle.outside.specs.StreamCalls.{WriteAllAnswer, HasRoom, GoesWell};
 
 /// A source failed.
 #[derive(Clone, Copy, Debug, PartialEq, Eq)]
@@ -82,11 +83,14 @@ pub trait Sink {
         ensures told { tells self.old → tells self.new × WriteAnswer (held self.old) (held self.new) piece.now result };
 }
 
-/// Writes all bytes. After a fault a front of them is written. Takes no memory.
+/// Writes all bytes. After a fault a front of them is written. It goes well where no fault is planned and there is
+/// room. Takes no memory.
 pub fn write_all<S: Sink>(out: &mut S, bytes: &[u8]) -> Result<(), SinkFault>
     ensures later { S.count out.old ≤ S.count out.new }
     ensures cause { IsErr result → Rose (S.count out.old) (S.count out.new) }
     ensures told { S.tells out.old → S.tells out.new × WriteAllAnswer (S.held out.old) (S.held out.new) bytes.now result }
+    ensures room { S.room out.new ≡ S.room out.old }
+    ensures well { S.tells out.old → IsQuiet (S.course out.old) → HasRoom (S.room out.old) (S.held out.old) bytes.now → S.count out.old < 2 ^ 64 - 1 → GoesWell (S.count out.old) (S.count out.new) (S.course out.new) result }
 {
     let mut done = 0;
     while done < bytes.len() {
