@@ -123,3 +123,7 @@ folder_keeps = record {
   reads_grow = λ s e. refl;
   either = λ e h. sym h;
 }
+
+-- a folder that isn't there has no files
+abbrev pub IsEmptyWhereAbsent : FolderState → Type 0
+IsEmptyWhereAbsent s = s.is_there ≡ false → s.files ≡ fin.empty
