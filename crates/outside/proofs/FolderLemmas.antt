@@ -1,13 +1,11 @@
 -- What each answer of a folder says of its run.
-use Rattle.std.proofs.Common.{ℕ, inl, inr, Bool, true, false, Option, Some, None, Result, Ok, Err, ◌≡◌, List, [], ◌∷◌, refl, sym, ◌∙◌, subst}
-use Rattle.outside.specs.Runs.{Leads}
+use Rattle.std.proofs.Common.{ℕ, inl, inr, Bool, true, false, Option, Some, None, Result, Ok, Err, ◌≡◌, List, [], refl, sym, subst}
 use Rattle.std.specs.Prelude.{◌&&◌, if◌then◌else◌}
 use Rattle.std.specs.FinMap as fin
 use Rattle.std.specs.declared.vec.Vec.{Vec}
 use Rattle.std.specs.declared.alloc.Global.{Global}
 use Rattle.outside.specs.declared.folder.FolderEvent.{FolderEvent}
 use Rattle.outside.specs.declared.folder.FolderEvent.TheVariants.{Edited, Toggled, Wrote, Read, Made}
-use Rattle.outside.specs.declared.folder.FileEntry.{FileEntry}
 use Rattle.outside.specs.declared.folder.FolderError.{FolderError}
 use Rattle.outside.specs.declared.folder.FolderError.TheVariants.{Fault, TooLong, NoMemory}
 use Rattle.outside.specs.declared.folder.Change.{Change}
@@ -15,7 +13,7 @@ use Rattle.outside.specs.declared.folder.Change.TheVariants.{Done, Moved}
 use Rattle.outside.specs.declared.folder.Expect.{Expect}
 use Rattle.outside.specs.declared.folder.Expect.TheVariants.{Absent, Etag}
 use Rattle.outside.specs.Files.{FolderState, happens, IsTrueEvent, Evolves, IsOutside, IsReadOf, IsWriteOf, IsMaking}
-use Rattle.outside.specs.FolderCalls.{NamesAnswer, FoldersAnswer, ReadAnswer, ReplaceAnswer, RemoveAnswer, MakeAnswer, meets}
+use Rattle.outside.specs.FolderCalls.{ReadAnswer, ReplaceAnswer, RemoveAnswer, MakeAnswer, meets}
 use Rattle.outside.proofs.Runs.{Runs-trans, Runs-weaker, Runs-one, KeepsEvents}
 
 -- a conditional write that acted, or was refused, and whose answer was lost
@@ -55,20 +53,6 @@ still {Kind} {s} f edits same = subst (λ (x : FolderState). Evolves Kind s x) (
 -- one event happens, after the edits
 then_one : {Kind : FolderEvent → Type 0} {s m t : FolderState} (e : FolderEvent) → ((e : FolderEvent) → IsOutside e → Kind e) → Evolves IsOutside s m → Kind e → IsTrueEvent m e → t ≡ happens m e → Evolves Kind s t
 then_one {Kind} {s} {m} e f edits kind is_true same = subst (λ (x : FolderState). Evolves Kind s x) (sym same) (Runs-trans (Runs-weaker f edits) (Runs-one m e kind is_true))
-
-pub names_run : (s m t : FolderState) (ending : List ℕ) (result : Result (Option (Vec FileEntry Global)) FolderError) → Evolves IsOutside s m → NamesAnswer m t ending result → Evolves IsOutside s t
-names_run s m t ending (Ok None) edits does = still (λ e k. k) edits does.0
-names_run s m t ending (Ok (Some found)) edits does = still (λ e k. k) edits does.0
-names_run s m t ending (Err TooLong) edits does = absurd does
-names_run s m t ending (Err Fault) edits does = still (λ e k. k) edits does
-names_run s m t ending (Err NoMemory) edits does = still (λ e k. k) edits does
-
-pub folders_run : (s m t : FolderState) (result : Result (Option (Vec (List ℕ) Global)) FolderError) → Evolves IsOutside s m → FoldersAnswer m t result → Evolves IsOutside s t
-folders_run s m t (Ok None) edits does = still (λ e k. k) edits does.0
-folders_run s m t (Ok (Some found)) edits does = still (λ e k. k) edits does.0
-folders_run s m t (Err TooLong) edits does = absurd does
-folders_run s m t (Err Fault) edits does = still (λ e k. k) edits does
-folders_run s m t (Err NoMemory) edits does = still (λ e k. k) edits does
 
 pub read_run : (s m t : FolderState) (name : List ℕ) (limit : ℕ) (result : Result (Option (Vec ℕ Global)) FolderError) → Evolves IsOutside s m → ReadAnswer m t name limit result → Evolves (IsReadOf name) s t
 read_run s m t name limit (Ok None) edits does = still (outside_is_read name) edits does.0
@@ -140,20 +124,6 @@ folder_keeps = record {
   either = λ e h. sym h;
 }
 
--- a folder that isn't there has no files: so it stays, whatever happens
+-- a folder that isn't there has no files
 abbrev pub IsEmptyWhereAbsent : FolderState → Type 0
 IsEmptyWhereAbsent s = s.is_there ≡ false → s.files ≡ fin.empty
-
-absent_step : (s : FolderState) (e : FolderEvent) → IsTrueEvent s e → IsEmptyWhereAbsent s → IsEmptyWhereAbsent (happens s e)
-absent_step s (Edited name old new) h law absent = absurd (let clash : true ≡ false = sym h.0 ∙ absent in cc)
-absent_step s (Wrote name old new) h law absent = absurd (let clash : true ≡ false = sym h.0 ∙ absent in cc)
-absent_step s (Read name bytes) h law absent = law absent
-absent_step s Toggled h law absent = h
-absent_step s Made h law absent = absurd (let clash : true ≡ false = absent in cc)
-
-absent_by : (Kind : FolderEvent → Type 0) (s t : FolderState) (es : List FolderEvent) → Leads happens IsTrueEvent Kind s es t → IsEmptyWhereAbsent s → IsEmptyWhereAbsent t
-absent_by Kind s t [] leads law = subst IsEmptyWhereAbsent (sym leads) law
-absent_by Kind s t (e ∷ es) leads law = absent_by Kind (happens s e) t es leads.2 (absent_step s e leads.1 law)
-
-pub absent_stays_empty : {Kind : FolderEvent → Type 0} {s t : FolderState} → Evolves Kind s t → IsEmptyWhereAbsent s → IsEmptyWhereAbsent t
-absent_stays_empty {Kind} {s} {t} run law = absent_by Kind s t run.events run.leads law

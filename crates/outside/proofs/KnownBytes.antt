@@ -1,7 +1,7 @@
 -- What is known of the bytes of a stream of std, call after call.
-use Rattle.std.proofs.Common.{◌≡◌, ℕ, ◌<◌, List, [], ◌++◌, take, drop, length, Option, Some, None, Result, Ok, Err, sym, ◌∙◌, ap, refl, subst}
+use Rattle.std.proofs.Common.{◌≡◌, ℕ, ◌<◌, List, [], ◌++◌, take, drop, length, Option, Some, None, Ok, Err, sym, ◌∙◌, ap, refl, subst}
 use Rattle.std.specs.Prelude.{IsSome, unwrap_or, false, true}
-use Rattle.std.specs.Io.KnownBytes.{Keeps, Appends, Consumes, IsAtEnd, ReadConsumes}
+use Rattle.std.specs.Io.KnownBytes.{Keeps, Appends, Consumes, IsAtEnd}
 use Rattle.std.proofs.lemmas.List.{take-append-drop, append-nil}
 use Rattle.outside.specs.declared.streams.SourceFault.{SourceFault}
 use Rattle.outside.specs.declared.streams.SinkFault.{SinkFault}
@@ -17,12 +17,6 @@ keeps_then (Some xs) None c h k = absurd h
 keeps_then (Some xs) (Some ys) None h k = absurd k
 keeps_then (Some xs) (Some ys) (Some zs) h k = k ∙ h
 
-pub keeps_appends : (a b c : Option (List ℕ)) (bytes : List ℕ) → Keeps a b → Appends b c bytes → Appends a c bytes
-keeps_appends None b c bytes h k = tt
-keeps_appends (Some xs) None c bytes h k = absurd h
-keeps_appends (Some xs) (Some ys) None bytes h k = absurd k
-keeps_appends (Some xs) (Some ys) (Some zs) bytes h k = k ∙ ap (λ s. s ++ bytes) h
-
 pub appends_keeps : (a b c : Option (List ℕ)) (bytes : List ℕ) → Appends a b bytes → Keeps b c → Appends a c bytes
 appends_keeps None b c bytes h k = tt
 appends_keeps (Some xs) None c bytes h k = absurd h
@@ -34,10 +28,6 @@ keeps_consumes None b c bytes h k = tt
 keeps_consumes (Some xs) None c bytes h k = absurd h
 keeps_consumes (Some xs) (Some ys) None bytes h k = absurd k
 keeps_consumes (Some xs) (Some ys) (Some zs) bytes h k = sym h ∙ k
-
-pub keeps_reads : {E : Type 0} (a b c : Option (List ℕ)) (r : Result ℕ E) (buf : List ℕ) → Keeps a b → ReadConsumes b c r buf → ReadConsumes a c r buf
-keeps_reads a b c (Ok n) buf h k = (keeps_consumes a b c (take n buf) h k.0, k.1)
-keeps_reads a b c (Err e) buf h k = keeps_then a b c h k
 
 -- where the bytes are known before a call, they are known behind it
 pub read_tells : (old new : Option (List ℕ)) (n : ℕ) (before after : List ℕ) → length after ≡ length before → IsSome old → Consumes old new (take n after) × (n ≡ 0 → 0 < length after → IsAtEnd new) → IsSome new × ReadAnswer (unwrap_or old []) (unwrap_or new []) before after (Ok n)

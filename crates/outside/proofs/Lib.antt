@@ -3,6 +3,7 @@ pub mod FileMapLemmas
 pub mod FolderLemmas
 pub mod KnownBytes
 pub mod PlacedLemmas
+pub mod PlanLemmas
 pub mod Results
 pub mod Runs
 pub mod SlotLemmas

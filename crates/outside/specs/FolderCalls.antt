@@ -1,5 +1,5 @@
 -- What each call of a folder may do, where the folder tells its state.
-use Rattle.std.specs.Prelude.{if◌then◌else◌, is_some, ◌≡◌, ℕ, Bool, true, false, ◌&&◌, List, ◌⊎◌, ◌<◌, ◌≤◌, length, map, filter, nat_eq, Option, Some, None, is_none, Result, Ok, Err}
+use Rattle.std.specs.Prelude.{if◌then◌else◌, is_some, ◌≡◌, ℕ, Bool, true, false, ◌&&◌, List, ◌⊎◌, ◌<◌, ◌≤◌, ◌-◌, ◌^◌, length, map, filter, nat_eq, Option, Some, None, is_none, Result, Ok, Err}
 use Rattle.std.specs.FinMap as fin
 use Rattle.std.specs.List.{ends_with}
 use Rattle.std.specs.Str.{bytes_eq}
@@ -100,8 +100,20 @@ MakeAnswer m t (Err Fault) = (t ≡ m) ⊎ (t ≡ made m)
 MakeAnswer m t (Err NoMemory) = t ≡ m
 MakeAnswer m t (Err TooLong) = ⊥
 
--- an error and its cause: a Fault comes only where the count rose
+-- an error and its cause: a Fault comes only where the count rose, and TooLong never
 abbrev pub FolderCause : Type 0 → FolderError → Type 0
 FolderCause rose Fault = rose
-FolderCause rose TooLong = Unit {0}
+FolderCause rose TooLong = ⊥
 FolderCause rose NoMemory = Unit {0}
+
+-- of a reading: TooLong comes only where the length of a file, a u64, can be past the limit
+abbrev pub ReadCause : Type 0 → ℕ → FolderError → Type 0
+ReadCause rose limit Fault = rose
+ReadCause rose limit TooLong = limit < 2 ^ 64 - 1
+ReadCause rose limit NoMemory = Unit {0}
+
+-- what was read is within the limit
+abbrev pub IsWithin : ℕ → Result (Option (Vec ℕ Global)) FolderError → Type 0
+IsWithin limit (Ok None) = Unit {0}
+IsWithin limit (Ok (Some bytes)) = length bytes.items ≤ limit
+IsWithin limit (Err e) = Unit {0}

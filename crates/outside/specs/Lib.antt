@@ -6,6 +6,7 @@ pub mod Files
 pub mod FolderCalls
 pub mod MemFolder
 pub mod Places
+pub mod Planned
 pub mod Plans
 pub mod Runs
 pub mod Shelf

@@ -1,6 +1,6 @@
 //! A real folder. It tells nothing of what it holds, so of the contract of `Folder` only the count of faults speaks here.
 
-ghost use Rattle.std.specs.Prelude.{◌≡◌, ◌≤◌, ◌↔◌, IfErr, IfOk, Ok, Err};
+ghost use Rattle.std.specs.Prelude.{◌≡◌, ◌≤◌, ◌<◌, ◌↔◌, IfErr, IfOk, Ok, Err, Some, vec_len};
 ghost use Rattle.std.specs.IoError.{error_kind};
 ghost use Rattle.outside.specs.Causes.{Rose};
 ghost use Rattle.outside.specs.FolderCalls.{FolderCause};
@@ -33,6 +33,17 @@ fn counted<T>(faults: &mut Faults, found: io::Result<T>) -> Result<T, FolderErro
     }
 }
 
+/// What was read of a file, where it is within the limit.
+fn within(bytes: Vec<u8>, limit: u64) -> Result<Option<Vec<u8>>, FolderError>
+    ensures long { result ≡ Err FolderError.TooLong ↔ limit < vec_len bytes }
+    ensures whole { result ≡ Ok (Some bytes) ↔ vec_len bytes ≤ limit }
+{
+    if bytes.len() as u64 > limit {
+        return Err(FolderError::TooLong);
+    }
+    Ok(Some(bytes))
+}
+
 /// A folder of the file system, by its path. A write goes to `NAME.tmp` beside the file, is carried to the disk and
 /// then takes the file's name. An edit that another program makes between the comparison and that moment isn't seen.
 #[derive(Drop)]
@@ -56,9 +67,12 @@ impl<R: Files + AllocGlobal + Clone + Drop> DirFolder<R> {
 }
 
 impl<R: Files + AllocGlobal + Clone + Drop> Folder for DirFolder<R> {
+    ghost use Rattle.std.specs.Prelude.{None};
     ghost use Rattle.outside.specs.Files.{nothing_told};
 
     ghost count = { λ d. d.faults.count };
+
+    ghost course = { λ _. None };
 
     ghost tells = { λ _. ⊥ };
 
@@ -88,12 +102,7 @@ impl<R: Files + AllocGlobal + Clone + Drop> Folder for DirFolder<R> {
         let found = disk::read_file(&self.rt, self.path.as_str(), name, limit);
         match counted(&mut self.faults, found) {
             Ok(None) => Ok(None),
-            Ok(Some(bytes)) => {
-                if bytes.len() as u64 > limit {
-                    return Err(FolderError::TooLong);
-                }
-                Ok(Some(bytes))
-            }
+            Ok(Some(bytes)) => within(bytes, limit),
             Err(error) => Err(error),
         }
     }

@@ -1,9 +1,12 @@
-//! The count of faults of a real device.
+//! The count of faults of a device.
 
 ghost use Rattle.std.specs.Prelude.{◌≡◌, ◌≤◌};
-ghost use Rattle.outside.specs.Causes.{Rose};
+ghost use Rattle.outside.specs.Causes.{risen};
+ghost use Rattle.outside.specs.Plans.{CountsFate};
 
-/// How often a real device failed. The count stays at the last value of a `u64`.
+use crate::plan::Fate;
+
+/// How often a device failed. The count stays at the last value of a `u64`.
 #[derive(Debug, Drop)]
 pub struct Faults {
     pub count: u64,
@@ -19,8 +22,20 @@ impl Faults {
     /// Counts one failure.
     pub fn raise(&mut self)
         ensures later { self.old.count ≤ self.new.count }
-        ensures rose { Rose self.old.count self.new.count }
+        ensures rose { self.new.count ≡ risen self.old.count }
     {
         self.count = self.count.saturating_add(1);
+    }
+
+    /// Counts a call that is to fail.
+    pub fn follow(&mut self, fate: Fate)
+        ensures later { self.old.count ≤ self.new.count }
+        ensures counted { CountsFate fate self.old.count self.new.count }
+    {
+        match fate {
+            Fate::Acts => {}
+            Fate::Fails => self.raise(),
+            Fate::ActsAndFails => self.raise(),
+        }
     }
 }

@@ -16,13 +16,23 @@ use values::{Bytes, Text};
 /// The bytes of each file, by its name.
 pub type FileMap = BTreeMap<String, Vec<u8>>;
 
+/// A file's bytes.
+pub fn lent<'f>(files: &'f FileMap, name: &str) -> Option<&'f [u8]>
+    ensures { option_copied result ≡ fin.get (files_of files.now) name.now }
+{
+    match files.get(name) {
+        None => None,
+        Some(bytes) => Some(bytes.as_slice()),
+    }
+}
+
 /// A copy of a file's bytes.
 pub fn copy_of(alloc: Global, files: &FileMap, name: &str) -> Result<Option<Bytes>, NoMemory>
     ensures { IfOk result (λ old. old ≡ fin.get (files_of files.now) name.now) }
 {
-    match files.get(name) {
+    match lent(files, name) {
         None => Ok(None),
-        Some(bytes) => Ok(Some(Bytes::of(Vec::from_slice(alloc, bytes.as_slice())?))),
+        Some(bytes) => Ok(Some(Bytes::of(Vec::from_slice(alloc, bytes)?))),
     }
 }
 

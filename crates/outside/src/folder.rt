@@ -107,16 +107,20 @@ pub enum FolderEvent {
 }
 
 pub trait Folder {
-    ghost use Rattle.std.specs.Prelude.{false, []};
+    ghost use Rattle.std.specs.Prelude.{Option, IsErr, false, []};
     ghost use Rattle.std.specs.Ordering.{nat_cmp};
     ghost use Rattle.std.specs.Cmp.Lexicographic.{slice_cmp};
     ghost use Rattle.std.specs.List.Sorted.{IsStrictlySortedBy};
     ghost use Rattle.std.specs.FinMap as fin;
     ghost use Rattle.outside.specs.Files.{FolderState, Changes, IsOutside, IsReadOf, IsWriteOf, IsMaking};
-    ghost use Rattle.outside.specs.FolderCalls.{AfterEdits, FolderCause, NamesAnswer, FoldersAnswer, ReadAnswer, ReplaceAnswer, RemoveAnswer, MakeAnswer};
+    ghost use Rattle.outside.specs.Plans.{Course, GoesBy};
+    ghost use Rattle.outside.specs.FolderCalls.{AfterEdits, FolderCause, ReadCause, IsWithin, NamesAnswer, FoldersAnswer, ReadAnswer, ReplaceAnswer, RemoveAnswer, MakeAnswer};
 
     /// The count of faults.
     ghost count: { Self → ℕ };
+
+    /// The plan by which its calls fail, and how many calls have begun, where that is told.
+    ghost course: { Self → Option Course };
 
     /// Whether contracts can see the folder's state.
     ghost tells: { Self → Type 0 };
@@ -132,18 +136,22 @@ pub trait Folder {
     fn names(&mut self, ending: &str) -> Result<Option<Vec<FileEntry>>, FolderError>
         ensures changes { Changes count tells state IsOutside self.old self.new }
         ensures cause { IfErr result (FolderCause (Rose (count self.old) (count self.new))) }
+        ensures goes { GoesBy (course self.old) (course self.new) (count self.old) (count self.new) (IsErr result) }
         ensures answer { tells self.old → AfterEdits (state self.old) (λ m. NamesAnswer m (state self.new) ending.now result) };
 
     /// The names of the subfolders, in byte order. `None` where the folder isn't there.
     fn folders(&mut self) -> Result<Option<Vec<Text>>, FolderError>
         ensures changes { Changes count tells state IsOutside self.old self.new }
         ensures cause { IfErr result (FolderCause (Rose (count self.old) (count self.new))) }
+        ensures goes { GoesBy (course self.old) (course self.new) (count self.old) (count self.new) (IsErr result) }
         ensures answer { tells self.old → AfterEdits (state self.old) (λ m. FoldersAnswer m (state self.new) result) };
 
     /// A file's bytes. `None` where the file isn't there, `TooLong` where it has more than `limit` bytes.
     fn read(&mut self, name: &str, limit: u64) -> Result<Option<Vec<u8>>, FolderError>
         ensures changes { Changes count tells state (IsReadOf name.now) self.old self.new }
-        ensures cause { IfErr result (FolderCause (Rose (count self.old) (count self.new))) }
+        ensures cause { IfErr result (ReadCause (Rose (count self.old) (count self.new)) limit) }
+        ensures goes { GoesBy (course self.old) (course self.new) (count self.old) (count self.new) (IsErr result) }
+        ensures within { IsWithin limit result }
         ensures answer { tells self.old → AfterEdits (state self.old) (λ m. ReadAnswer m (state self.new) name.now limit result) };
 
     /// Writes the file whole, where it is as `expect` says, and answers `Moved` otherwise. After `Fault` it has been
@@ -151,6 +159,7 @@ pub trait Folder {
     fn replace(&mut self, name: &str, expect: Expect, new: &[u8]) -> Result<Change, FolderError>
         ensures changes { Changes count tells state (IsWriteOf name.now (Some new.now)) self.old self.new }
         ensures cause { IfErr result (FolderCause (Rose (count self.old) (count self.new))) }
+        ensures goes { GoesBy (course self.old) (course self.new) (count self.old) (count self.new) (IsErr result) }
         ensures answer { tells self.old → AfterEdits (state self.old) (λ m. ReplaceAnswer m (state self.new) name.now expect.entry new.now result) };
 
     /// Takes the file away, where it has this etag, and answers `Moved` otherwise. After `Fault` it is gone or
@@ -158,12 +167,14 @@ pub trait Folder {
     fn remove(&mut self, name: &str, tag: &str) -> Result<Change, FolderError>
         ensures changes { Changes count tells state (IsWriteOf name.now None) self.old self.new }
         ensures cause { IfErr result (FolderCause (Rose (count self.old) (count self.new))) }
+        ensures goes { GoesBy (course self.old) (course self.new) (count self.old) (count self.new) (IsErr result) }
         ensures answer { tells self.old → AfterEdits (state self.old) (λ m. RemoveAnswer m (state self.new) name.now tag.now result) };
 
     /// Makes the folder and its parents. It changes nothing where the folder is there.
     fn make(&mut self) -> Result<(), FolderError>
         ensures changes { Changes count tells state IsMaking self.old self.new }
         ensures cause { IfErr result (FolderCause (Rose (count self.old) (count self.new))) }
+        ensures goes { GoesBy (course self.old) (course self.new) (count self.old) (count self.new) (IsErr result) }
         ensures answer { tells self.old → AfterEdits (state self.old) (λ m. MakeAnswer m (state self.new) result) };
 
     /// A folder that isn't there has no files.

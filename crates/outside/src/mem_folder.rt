@@ -2,16 +2,17 @@
 
 mod looking;
 
-ghost use Rattle.std.specs.Prelude.{◌≡◌, ◌≤◌, true, false, IfOk, OnOk, vec_len, min, ◌+◌, ◌-◌, ◌^◌};
-ghost use Rattle.outside.specs.Causes.{Rose};
+ghost use Rattle.std.specs.Prelude.{◌≡◌, ◌≤◌, true, false, IfOk, OnOk, vec_len, Some};
 ghost use Rattle.outside.specs.Shelf.{state_of};
 ghost use Rattle.outside.specs.MemFolder.{after_due, after_edits};
-ghost use Rattle.outside.specs.Plans.{fate_of, HasCause};
+ghost use Rattle.outside.specs.Plans.{begun, next, next_call, next_fate, CountsFate};
+ghost use Rattle.outside.specs.Planned.{course_of};
 ghost use Rattle.outside.specs.Files.{Evolves, IsOutside};
 
 use crate::file_map::collect;
 use crate::folder::{Change, Expect, FileEntry, Folder, FolderError, NoMemory};
 use crate::plan::{Fate, FaultPlan, OutsideEdit};
+use crate::planned::Planned;
 use crate::shelf::Shelf;
 use crate::subfolders::ordered;
 use std::alloc::Global;
@@ -46,9 +47,7 @@ fn edit_before(shelf: &mut Shelf, edits: &[OutsideEdit], call: u64) -> Result<()
 #[derive(Drop)]
 pub struct MemFolder {
     shelf: Shelf,
-    plan: FaultPlan,
-    calls: u64,
-    faults: u64,
+    planned: Planned,
 }
 
 impl MemFolder {
@@ -69,31 +68,27 @@ impl MemFolder {
         ensures tells { IfOk result (λ m. ⟦<MemFolder as Folder>⟧.tells m × (⟦<MemFolder as Folder>⟧.state m ≡ is_new there files.items (⟦<MemFolder as Folder>⟧.state m).folders)) }
         ensures folders { IfOk result (λ m. IsInByteOrder folders.items (⟦<MemFolder as Folder>⟧.state m).folders) }
         ensures count { IfOk result (λ m. ⟦<MemFolder as Folder>⟧.count m ≡ 0) }
+        ensures course { IfOk result (λ m. ⟦<MemFolder as Folder>⟧.course m ≡ Some (begun plan)) }
     {
         let files = collect(alloc, files)?;
         Ok(MemFolder {
             shelf: Shelf::new(alloc, there, files, ordered(folders)),
-            plan,
-            calls: 0,
-            faults: 0,
+            planned: Planned::new(plan),
         })
     }
 
     /// Begins a call: makes the edits from outside that come before it, and finds what becomes of it.
     fn begin(&mut self) -> Result<Fate, NoMemory>
         ensures edits { Evolves IsOutside (state_of self.old.shelf) (state_of self.new.shelf) }
-        ensures later { self.old.faults ≤ self.new.faults }
-        ensures calls { self.new.calls ≡ min (self.old.calls + 1) (2 ^ 64 - 1) }
-        ensures fate { IfOk result (λ fate. fate ≡ fate_of self.old.plan self.new.calls) }
-        ensures planned { OnOk result (state_of self.new.shelf ≡ after_edits self.old.plan.edits.items self.new.calls (state_of self.old.shelf)) }
-        ensures cause { IfOk result (λ fate. HasCause fate self.old.faults self.new.faults) }
+        ensures later { self.old.planned.faults.count ≤ self.new.planned.faults.count }
+        ensures course { course_of self.new.planned ≡ next (course_of self.old.planned) }
+        ensures fate { IfOk result (λ fate. fate ≡ next_fate (course_of self.old.planned)) }
+        ensures planned { OnOk result (state_of self.new.shelf ≡ after_edits self.old.planned.plan.edits.items (next_call (course_of self.old.planned)) (state_of self.old.shelf)) }
+        ensures counted { CountsFate (next_fate (course_of self.old.planned)) self.old.planned.faults.count self.new.planned.faults.count }
     {
-        self.calls = self.calls.saturating_add(1);
-        edit_before(&mut self.shelf, self.plan.edits.as_slice(), self.calls)?;
-        let fate = self.plan.fate(self.calls);
-        if fate != Fate::Acts {
-            self.faults = self.faults.saturating_add(1);
-        }
+        let fate = self.planned.begin();
+        let edits = self.planned.plan.edits.as_slice();
+        edit_before(&mut self.shelf, edits, self.planned.calls)?;
         Ok(fate)
     }
 }
@@ -102,9 +97,12 @@ impl Folder for MemFolder {
     ghost use Rattle.outside.specs.FileMapEmpty.{files_of-no_len};
     ghost use Rattle.outside.specs.Subfolders.{no_names};
     ghost use Rattle.std.specs.Prelude.{Some};
+    ghost use Rattle.outside.specs.Planned.{course_of};
     ghost use Rattle.outside.specs.Shelf.{state_of};
 
-    ghost count = { λ m. m.faults };
+    ghost count = { λ m. m.planned.faults.count };
+
+    ghost course = { λ m. Some (course_of m.planned) };
 
     ghost tells = { λ _. Unit {0} };
 
@@ -117,7 +115,7 @@ impl Folder for MemFolder {
     ghost folders_rise = { λ m told. m.shelf.folders_rise };
 
     fn faults(&self) -> u64 {
-        self.faults
+        self.planned.faults.count
     }
 
     fn names(&mut self, ending: &str) -> Result<Option<Vec<FileEntry>>, FolderError> {

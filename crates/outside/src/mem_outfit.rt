@@ -13,8 +13,8 @@ use std::alloc::{AllocError, Global};
 use values::Text;
 
 /// Makes folders in memory that aren't there.
-#[derive(Clone, Copy, Debug)]
-pub struct AbsentFolders;
+#[derive(Drop)]
+struct AbsentFolders;
 
 impl Blank<MemFolder> for AbsentFolders {
     ghost blank_place = { blank_place };
@@ -31,9 +31,6 @@ impl Blank<MemFolder> for AbsentFolders {
     }
 }
 
-/// Folders in memory. A location that none was put at is a folder that isn't there.
-pub type MemOutfit = SlotOutfit<MemFolder, AbsentFolders>;
-
 fn slots_of(alloc: Global, dirs: Vec<(Text, MemFolder)>) -> Result<Vec<Slot<MemFolder>>, AllocError>
     ensures { IfOk result (λ slots. slots.items ≡ map slot_of dirs.items) }
 {
@@ -45,7 +42,13 @@ fn slots_of(alloc: Global, dirs: Vec<(Text, MemFolder)>) -> Result<Vec<Slot<MemF
         .collect(alloc)
 }
 
-impl SlotOutfit<MemFolder, AbsentFolders> {
+/// Folders in memory. A location that none was put at is a folder that isn't there.
+#[derive(Drop)]
+pub struct MemOutfit {
+    slots: SlotOutfit<MemFolder, AbsentFolders>,
+}
+
+impl MemOutfit {
     /// An outfit of these folders, none of which is out.
     pub fn new(alloc: Global, dirs: Vec<(Text, MemFolder)>) -> Result<MemOutfit, NoMemory>
         requires { AllPairs (λ d e. d.0 ≢ e.0) dirs.items }
@@ -54,7 +57,25 @@ impl SlotOutfit<MemFolder, AbsentFolders> {
         ensures tells { IfOk result (λ o. (q : List ℕ) → ⟦<MemOutfit as Outfit>⟧.tells o q) }
     {
         let slots = slots_of(alloc, dirs)?;
-        Ok(SlotOutfit::of(alloc, AbsentFolders, slots))
+        Ok(MemOutfit {
+            slots: SlotOutfit::of(alloc, AbsentFolders, slots),
+        })
+    }
+}
+
+impl Outfit for MemOutfit {
+    type Dir = MemFolder;
+
+    ghost places = { λ o. ⟦<SlotOutfit<MemFolder, AbsentFolders> as Outfit>⟧.places o.slots };
+
+    ghost tells = { λ o. ⟦<SlotOutfit<MemFolder, AbsentFolders> as Outfit>⟧.tells o.slots };
+
+    fn open_dir(&mut self, path: &str) -> Result<Option<MemFolder>, NoMemory> {
+        self.slots.open_dir(path)
+    }
+
+    fn give_dir(&mut self, path: &str, dir: MemFolder) {
+        self.slots.give_dir(path, dir)
     }
 }
 

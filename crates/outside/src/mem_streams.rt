@@ -1,6 +1,8 @@
 //! A source and a sink in memory, with faults by a plan.
 
-ghost use Rattle.std.specs.Prelude.{◌≡◌, ◌≤◌, ◌+◌, ◌-◌, ◌++◌, [], IfOk, length, min, take, drop, vec_len, vec_capacity};
+ghost use Rattle.std.specs.Prelude.{◌≡◌, ◌≤◌, ◌+◌, ◌-◌, ◌++◌, [], IfOk, Some, length, min, take, drop, vec_len, vec_capacity};
+ghost use Rattle.outside.specs.Plans.{begun};
+ghost use Rattle.outside.specs.StreamCalls.{is_full};
 
 use crate::folder::NoMemory;
 use crate::plan::{Fate, FaultPlan};
@@ -23,6 +25,7 @@ impl MemSource {
     pub fn new(_alloc: Global, bytes: Bytes, plan: FaultPlan) -> Result<MemSource, NoMemory>
         ensures tells { IfOk result (λ s. ⟦<MemSource as Source>⟧.tells s × (⟦<MemSource as Source>⟧.left s ≡ bytes)) }
         ensures count { IfOk result (λ s. ⟦<MemSource as Source>⟧.count s ≡ 0) }
+        ensures course { IfOk result (λ s. ⟦<MemSource as Source>⟧.course s ≡ Some (begun plan)) }
     {
         Ok(MemSource {
             bytes: bytes.into_vec(),
@@ -46,9 +49,12 @@ impl MemSource {
 }
 
 impl Source for MemSource {
-    ghost use Rattle.std.specs.Prelude.{drop};
+    ghost use Rattle.std.specs.Prelude.{drop, Some};
+    ghost use Rattle.outside.specs.Planned.{course_of};
 
     ghost count = { λ s. s.planned.faults.count };
+
+    ghost course = { λ s. Some (course_of s.planned) };
 
     ghost tells = { λ _. Unit {0} };
 
@@ -85,6 +91,8 @@ impl MemSink {
     pub fn new(alloc: Global, room: u64, plan: FaultPlan) -> Result<MemSink, NoMemory>
         ensures tells { IfOk result (λ s. ⟦<MemSink as Sink>⟧.tells s × (⟦<MemSink as Sink>⟧.held s ≡ [])) }
         ensures count { IfOk result (λ s. ⟦<MemSink as Sink>⟧.count s ≡ 0) }
+        ensures course { IfOk result (λ s. ⟦<MemSink as Sink>⟧.course s ≡ Some (begun plan)) }
+        ensures room { IfOk result (λ s. ⟦<MemSink as Sink>⟧.room s ≡ Some room) }
     {
         let room = room as usize;
         Ok(MemSink {
@@ -101,6 +109,13 @@ impl MemSink {
         self.bytes.as_slice()
     }
 
+    /// Whether no byte of a piece fits.
+    fn is_full(&self, piece: &[u8]) -> bool
+        ensures { result ≡ is_full (Some self.now.room) self.now.bytes.items piece.now }
+    {
+        self.bytes.len() >= self.room && !piece.is_empty()
+    }
+
     /// Adds as many bytes of a piece as still fit, and gives how many.
     fn add(&mut self, piece: &[u8]) -> usize
         ensures taken { result ≡ min (length piece.now) (self.old.room - vec_len self.old.bytes) }
@@ -115,7 +130,14 @@ impl MemSink {
 }
 
 impl Sink for MemSink {
+    ghost use Rattle.std.specs.Prelude.{Some};
+    ghost use Rattle.outside.specs.Planned.{course_of};
+
     ghost count = { λ s. s.planned.faults.count };
+
+    ghost course = { λ s. Some (course_of s.planned) };
+
+    ghost room = { λ s. Some s.room };
 
     ghost tells = { λ _. Unit {0} };
 
@@ -128,12 +150,11 @@ impl Sink for MemSink {
     fn write(&mut self, piece: &[u8]) -> Result<usize, SinkFault> {
         match self.planned.begin() {
             Fate::Acts => {
-                let taken = self.add(piece);
-                if taken == 0 && !piece.is_empty() {
+                if self.is_full(piece) {
                     self.planned.faults.raise();
                     return Err(SinkFault);
                 }
-                Ok(taken)
+                Ok(self.add(piece))
             }
             Fate::Fails => Err(SinkFault),
             Fate::ActsAndFails => {

@@ -1,7 +1,7 @@
 //! The calls of a device in memory, numbered, with what its plan says of each.
 
-ghost use Rattle.std.specs.Prelude.{◌≡◌, ◌≤◌, ◌+◌, ◌-◌, ◌^◌, min};
-ghost use Rattle.outside.specs.Plans.{fate_of, HasCause};
+ghost use Rattle.std.specs.Prelude.{◌≡◌, ◌≤◌};
+ghost use Rattle.outside.specs.Plans.{begun, next, next_fate, CountsFate};
 
 use crate::faults::Faults;
 use crate::plan::{Fate, FaultPlan};
@@ -15,8 +15,11 @@ pub struct Planned {
 }
 
 impl Planned {
+    ghost use Rattle.outside.specs.Planned.{course_of};
+
     pub fn new(plan: FaultPlan) -> Planned
-        ensures { result ≡ record { plan = plan; calls = 0; faults = record { count = 0 } } }
+        ensures course { course_of result ≡ begun plan }
+        ensures count { result.faults.count ≡ 0 }
     {
         Planned {
             plan,
@@ -27,17 +30,14 @@ impl Planned {
 
     /// Begins a call, and finds what becomes of it. A call that is to fail counts as a fault.
     pub fn begin(&mut self) -> Fate
-        ensures plan { self.new.plan ≡ self.old.plan }
-        ensures calls { self.new.calls ≡ min (self.old.calls + 1) (2 ^ 64 - 1) }
+        ensures course { course_of self.new ≡ next (course_of self.old) }
+        ensures fate { result ≡ next_fate (course_of self.old) }
         ensures later { self.old.faults.count ≤ self.new.faults.count }
-        ensures fate { result ≡ fate_of self.old.plan self.new.calls }
-        ensures cause { HasCause result self.old.faults.count self.new.faults.count }
+        ensures counted { CountsFate result self.old.faults.count self.new.faults.count }
     {
         self.calls = self.calls.saturating_add(1);
         let fate = self.plan.fate(self.calls);
-        if fate != Fate::Acts {
-            self.faults.raise();
-        }
+        self.faults.follow(fate);
         fate
     }
 }

@@ -13,7 +13,7 @@ use values::Text;
 
 /// Makes folders of the real files.
 #[derive(Drop)]
-pub struct RealFolders<R: Files + AllocGlobal + Clone + Drop> {
+struct RealFolders<R: Files + AllocGlobal + Clone + Drop> {
     rt: R,
 }
 
@@ -33,13 +33,34 @@ impl<R: Files + AllocGlobal + Clone + Drop> Blank<DirFolder<R>> for RealFolders<
 }
 
 /// Folders of the real files, by their paths.
-pub type RealOutfit<R> = SlotOutfit<DirFolder<R>, RealFolders<R>>;
+#[derive(Drop)]
+pub struct RealOutfit<R: Files + AllocGlobal + Clone + Drop> {
+    slots: SlotOutfit<DirFolder<R>, RealFolders<R>>,
+}
 
-impl<R: Files + AllocGlobal + Clone + Drop + Send> SlotOutfit<DirFolder<R>, RealFolders<R>> {
+impl<R: Files + AllocGlobal + Clone + Drop + Send> RealOutfit<R> {
     /// An outfit of which no place is out. It takes memory only as places are opened.
     pub fn new(alloc: Global, rt: R) -> RealOutfit<R>
         ensures { (q : List ℕ) → ⟦<RealOutfit<R> as Outfit>⟧.places result q ≡ Some blank_place }
     {
-        SlotOutfit::of(alloc, RealFolders { rt }, Vec::new(alloc))
+        RealOutfit {
+            slots: SlotOutfit::of(alloc, RealFolders { rt }, Vec::new(alloc)),
+        }
+    }
+}
+
+impl<R: Files + AllocGlobal + Clone + Drop + Send> Outfit for RealOutfit<R> {
+    type Dir = DirFolder<R>;
+
+    ghost places = { λ o. ⟦<SlotOutfit<DirFolder<R>, RealFolders<R>> as Outfit>⟧.places o.slots };
+
+    ghost tells = { λ o. ⟦<SlotOutfit<DirFolder<R>, RealFolders<R>> as Outfit>⟧.tells o.slots };
+
+    fn open_dir(&mut self, path: &str) -> Result<Option<DirFolder<R>>, NoMemory> {
+        self.slots.open_dir(path)
+    }
+
+    fn give_dir(&mut self, path: &str, dir: DirFolder<R>) {
+        self.slots.give_dir(path, dir)
     }
 }

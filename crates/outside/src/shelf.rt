@@ -1,6 +1,6 @@
 //! What a folder in memory holds, and what has happened to it.
 
-ghost use Rattle.std.specs.Prelude.{◌≡◌, ◌≢◌, true, false, IfOk, OnOk, OnErr, [], option_copied, length};
+ghost use Rattle.std.specs.Prelude.{◌≡◌, ◌≢◌, ◌<◌, ◌-◌, ◌^◌, true, false, IfOk, OnOk, OnErr, [], option_copied, length};
 ghost use Rattle.std.specs.Ordering.{nat_cmp};
 ghost use Rattle.std.specs.Cmp.Lexicographic.{slice_cmp};
 ghost use Rattle.std.specs.List.Sorted.{IsStrictlySortedBy};
@@ -9,7 +9,7 @@ ghost use Rattle.std.specs.BTreeMap.{btree_map_len};
 ghost use Rattle.std.specs.FinMap as fin;
 
 use crate::etag::etag_of;
-use crate::file_map::{FileMap, copy_of, entries, set};
+use crate::file_map::{FileMap, copy_of, entries, lent, set};
 use crate::folder::{Change, Expect, FileEntry, FolderError, FolderEvent, NoMemory};
 use crate::subfolders::copied;
 use std::alloc::Global;
@@ -190,15 +190,17 @@ impl Shelf {
 
     pub fn read(&mut self, name: &str, limit: u64) -> Result<Option<Vec<u8>>, FolderError>
         ensures answer { ReadAnswer (state_of self.old) (state_of self.new) name.now limit result }
+        ensures long { result ≡ Err FolderError.TooLong → limit < 2 ^ 64 - 1 }
         ensures no_fault { result ≢ Err FolderError.Fault }
     {
-        let Some(bytes) = copy_of(self.alloc, &self.files, name)? else {
+        let Some(held) = lent(&self.files, name) else {
             return Ok(None);
         };
-        if bytes.as_slice().len() as u64 > limit {
+        if held.len() as u64 > limit {
             return Err(FolderError::TooLong);
         }
-        let given = copy(self.alloc, bytes.as_slice())?.into_vec();
+        let bytes = copy(self.alloc, held)?;
+        let given = copy(self.alloc, held)?.into_vec();
         let name = copy_text(self.alloc, name)?;
         self.trail.push(FolderEvent::Read { name, bytes })?;
         Ok(Some(given))
@@ -211,9 +213,8 @@ impl Shelf {
         if !self.there {
             return Ok(false);
         }
-        let held = copy_of(self.alloc, &self.files, name)?;
         match expect {
-            Expect::Absent => Ok(held.is_none()),
+            Expect::Absent => Ok(lent(&self.files, name).is_none()),
             Expect::Etag(tag) => self.has_etag(name, tag),
         }
     }
@@ -222,10 +223,10 @@ impl Shelf {
     fn has_etag(&self, name: &str, tag: &str) -> Result<bool, NoMemory>
         ensures { IfOk result (λ has. has ≡ has_etag tag.now (fin.get (state_of self.now).files name.now)) }
     {
-        let Some(bytes) = copy_of(self.alloc, &self.files, name)? else {
+        let Some(bytes) = lent(&self.files, name) else {
             return Ok(false);
         };
-        let etag = etag_of(self.alloc, bytes.as_slice())?;
+        let etag = etag_of(self.alloc, bytes)?;
         Ok(etag.as_str() == tag)
     }
 

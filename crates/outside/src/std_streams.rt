@@ -82,9 +82,11 @@ impl<I: Read + Drop> StdSource<I> {
 }
 
 impl<I: Read + Drop> Source for StdSource<I> {
-    ghost use Rattle.std.specs.Prelude.{IsSome, unwrap_or, []};
+    ghost use Rattle.std.specs.Prelude.{IsSome, unwrap_or, [], None};
 
     ghost count = { λ s. s.faults.count };
+
+    ghost course = { λ _. None };
 
     ghost tells = { λ s. IsSome (I.remaining s.stream) };
 
@@ -117,9 +119,13 @@ impl<O: Write + Drop> StdSink<O> {
 }
 
 impl<O: Write + Drop> Sink for StdSink<O> {
-    ghost use Rattle.std.specs.Prelude.{IsSome, unwrap_or, []};
+    ghost use Rattle.std.specs.Prelude.{IsSome, unwrap_or, [], None};
 
     ghost count = { λ s. s.faults.count };
+
+    ghost course = { λ _. None };
+
+    ghost room = { λ _. None };
 
     ghost tells = { λ s. IsSome (O.contents s.stream) };
 

@@ -6,9 +6,9 @@ pub returns-in-ActsAndFails-clause-told : goal.returns-in-ActsAndFails-clause-to
 returns-in-ActsAndFails-clause-told c = λ told. (
   told,
   record {
-    front = take c.add.result c.args.piece.now;
-    rest = drop c.add.result c.args.piece.now;
-    is_front = sym (take-append-drop c.add.result c.args.piece.now);
-    adds = c.add.ensures.added;
+    front = take c.add-in-ActsAndFails.result c.args.piece.now;
+    rest = drop c.add-in-ActsAndFails.result c.args.piece.now;
+    is_front = sym (take-append-drop c.add-in-ActsAndFails.result c.args.piece.now);
+    adds = c.add-in-ActsAndFails.ensures.added;
   },
 )
