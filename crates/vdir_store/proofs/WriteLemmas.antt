@@ -163,9 +163,6 @@ drop_no_memory ending name tag s t h = (inl (outside_seen ending s t (to_end h.e
 
 -- ---- put_new
 
-pub put_nothing : (may : List ℕ → Type 0) (item : ItemValue) (s : SideState) → PutNewAnswer false may item s [] s [] (Err store_error.NoMemory)
-put_nothing may item s = inl (Evolves-refl s, refl)
-
 pub put_ok : (may : List ℕ → Type 0) (name : List ℕ) (item : ItemValue) (s t : SideState) (put : Put) (tag : Option (List ℕ)) → put.href ≡ name → put.etag ≡ tag → may name → PutOverAnswer false (new_at name item.text) s [] t [] (Ok tag) → PutNewAnswer false may item s [] t [] (Ok put)
 put_ok may name item s t put tag href etag chosen sent =
     subst (λ (x : Put). PutNewAnswer false may item s [] t [] (Ok x)) (λ i. record { href = sym href i; etag = sym etag i }) (chosen, sent)

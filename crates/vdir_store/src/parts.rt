@@ -1,13 +1,13 @@
 //! What the store's calls do with its folder.
 
-ghost use Rattle.std.specs.Prelude.{[], ◌≡◌, ◌≤◌, ◌⊎◌, ℕ, List, true, false, Some, filter, map, IfOk, IfErr, string_bytes, IsTrue};
+ghost use Rattle.std.specs.Prelude.{[], ◌∷◌, ◌≡◌, ◌≤◌, ◌⊎◌, ℕ, List, true, false, Some, filter, map, IfOk, IfErr, string_bytes, IsTrue};
 ghost use Rattle.std.specs.List.{list_all};
 ghost use Rattle.std.specs.BTreeSet.{contains_text};
 ghost use Rattle.outside.specs.Causes.{Rose};
-ghost use Rattle.store_model.specs.Sides.{IsOutside, IsNoWrite, Sometime};
+ghost use Rattle.store_model.specs.Sides.{IsOutside, Sometime};
 ghost use Rattle.store_model.specs.Waits.{over_at, gone_at};
 ghost use Rattle.store_model.specs.Names.{file_stem, IsFreeName};
-ghost use Rattle.store_model.specs.StoreCalls.{StoreCause, Changes, is_short, IsListing, TakenByList, TakenByPut, GetAnswer, PutNewAnswer, PutOverAnswer, DropAnswer};
+ghost use Rattle.store_model.specs.StoreCalls.{StoreCause, Changes, is_short, IsListing, TakenByList, TakenByPut, IsGetOf, GetAnswer, PutNewAnswer, PutOverAnswer, DropAnswer};
 ghost use Rattle.vdir_store.specs.Names.{is_item, is_ending, SpeaksOf};
 ghost use Rattle.vdir_store.specs.Vdir.{side_of};
 ghost use Rattle.vdir_store.specs.VdirCalls.{listed_entry, IsBadItem, FetchAnswer, change_of};
@@ -135,7 +135,7 @@ pub fn fetch<F: Folder>(
     ending: &str,
     name: &str,
 ) -> Result<Fetched, StoreError>
-    ensures changes { Changes F.count F.tells (λ f. side_of ending.now (F.state f)) IsNoWrite folder.old folder.new }
+    ensures changes { Changes F.count F.tells (λ f. side_of ending.now (F.state f)) (IsGetOf (name.now ∷ [])) folder.old folder.new }
     ensures cause { IfErr result (StoreCause (Rose (F.count folder.old) (F.count folder.new))) }
     ensures answer { F.tells folder.old → FetchAnswer (side_of ending.now (F.state folder.old)) (side_of ending.now (F.state folder.new)) name.now result }
 {
@@ -169,7 +169,7 @@ pub fn fetch_all<F: Folder>(
     ending: &str,
     hrefs: &[Text],
 ) -> Result<Vec<Fetched>, StoreError>
-    ensures changes { Changes F.count F.tells (λ f. side_of ending.now (F.state f)) IsNoWrite folder.old folder.new }
+    ensures changes { Changes F.count F.tells (λ f. side_of ending.now (F.state f)) (IsGetOf hrefs.now) folder.old folder.new }
     ensures cause { IfErr result (StoreCause (Rose (F.count folder.old) (F.count folder.new))) }
     ensures answer { F.tells folder.old → GetAnswer (λ c. ⊥) (side_of ending.now (F.state folder.old)) (side_of ending.now (F.state folder.new)) hrefs.now result }
 {
