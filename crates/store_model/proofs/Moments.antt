@@ -9,7 +9,7 @@ use Rattle.outside.proofs.Runs.{Runs-refl, Runs-trans, Runs-weaker, Runs-one, Ch
 use Rattle.store_model.specs.declared.event.Held.{Held}
 use Rattle.store_model.specs.declared.event.StoreEvent.{StoreEvent}
 use Rattle.store_model.specs.declared.event.StoreEvent.TheVariants.{Edited, Toggled, Wrote, Read}
-use Rattle.store_model.specs.StoreCalls.{StoreCause, Changes, WasFetched, WasGot, StoodOrListed, IsListing, IsListed}
+use Rattle.store_model.specs.StoreCalls.{StoreCause, Changes, IsGetOf, WasFetched, WasGot, StoodOrListed, IsListing, IsListed}
 use Rattle.std.specs.declared.vec.Vec.{Vec}
 use Rattle.std.specs.declared.alloc.Global.{Global}
 use Rattle.store_model.specs.declared.store.Entry.{Entry}
@@ -85,6 +85,12 @@ outside_is_no_write Toggled h = tt
 outside_is_no_write (Wrote href old new sent) h = h
 outside_is_no_write (Read href text) h = tt
 
+pub get_is_no_write : (hrefs : List (List ℕ)) (e : StoreEvent) → IsGetOf hrefs e → IsNoWrite e
+get_is_no_write hrefs (Edited href old new) h = tt
+get_is_no_write hrefs Toggled h = tt
+get_is_no_write hrefs (Wrote href old new sent) h = h
+get_is_no_write hrefs (Read href text) h = tt
+
 pub Changes-refl : {S : Type 0} {count : S → ℕ} {tells : S → Type 0} {side : S → SideState} {Kind : StoreEvent → Type 0} (s : S) → Changes count tells side Kind s s
 Changes-refl s = ChangesBy-refl s
 
@@ -131,14 +137,6 @@ outside_keeps_reads {s} {t} run = by s run.events run.leads
     by : (s : SideState) (es : List StoreEvent) → Leads happens IsTrueEvent IsOutside s es t → t.reads ≡ s.reads
     by s [] leads = ap (λ (x : SideState). x.reads) leads
     by s (e ∷ es) leads = by (happens s e) es leads.2 ∙ one s e leads.0
-
--- a run changes nothing beside the items
-pub nothing_beside : {Kind : StoreEvent → Type 0} {s t : SideState} → Evolves Kind s t → t.beside ≡ s.beside
-nothing_beside {Kind} {s} {t} run = by s run.events run.leads
-  where
-    by : (s : SideState) (es : List StoreEvent) → Leads happens IsTrueEvent Kind s es t → t.beside ≡ s.beside
-    by s [] leads = ap (λ (x : SideState). x.beside) leads
-    by s (e ∷ es) leads = by (happens s e) es leads.2
 
 -- what was got of a listing stood at the moment of the listing or later
 WasGot-fetched : (recalls : Content → Type 0) (listed got t : SideState) → Since listed got → Since got t → ((c : Content) → recalls c → c ≡ listed.content) → (f : Fetched) → WasGot recalls got t f → WasFetched listed t f

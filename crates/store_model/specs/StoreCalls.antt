@@ -16,8 +16,10 @@ use Rattle.store_model.specs.declared.store.Put.{Put}
 use Rattle.store_model.specs.declared.store.StoreError.{StoreError}
 use Rattle.store_model.specs.declared.store.StoreError.TheVariants.{Fault, Moved, TooLong, TooMany, NotThere, Vanished, BadItem, NoMemory}
 use Rattle.outside.specs.Runs.{ChangesBy}
+use Rattle.outside.specs.declared.folder.FolderError.{FolderError}
+use Rattle.outside.specs.declared.folder.FolderError.TheVariants as folder_error
 use Rattle.store_model.specs.Sides.{Content, SideState, happens, IsTrueEvent, Evolves, IsOutside, Sometime, WasRead, WasEdited, Writes, HoldsAt}
-use Rattle.store_model.specs.Waits.{Change, fits, new_at, Acts, Sent, Flushes}
+use Rattle.store_model.specs.Waits.{Change, In, fits, new_at, Acts, Sent, Flushes}
 
 abbrev pub entry_of : List ℕ × Held → Entry
 entry_of e = record { href = e.0; etag = (e.1).etag }
@@ -118,6 +120,13 @@ GetAnswer recalls s t hrefs (Ok fetched) = (map (λ f. f.href) fetched.items ≡
 GetAnswer recalls s t hrefs (Err NoMemory) = Unit {0}
 GetAnswer recalls s t hrefs (Err e) = StopsAt recalls s t hrefs e
 
+-- edits from outside, and readings at these hrefs
+abbrev pub IsGetOf : List (List ℕ) → StoreEvent → Type 0
+IsGetOf hrefs (Edited href old new) = Unit {0}
+IsGetOf hrefs Toggled = Unit {0}
+IsGetOf hrefs (Wrote href old new sent) = ⊥
+IsGetOf hrefs (Read href text) = In href hrefs
+
 -- edits from outside, and own writes that store this item where nothing stood
 abbrev pub IsPutOf : ItemValue → StoreEvent → Type 0
 IsPutOf item (Wrote href None (Some held) (Some sent)) = sent ≡ item.text
@@ -172,9 +181,26 @@ FlushAnswer s w t w' (Err Moved) = Evolves IsOutside s t × (w' ≡ w) × (w ≡
 FlushAnswer s w t w' (Err Fault) = Evolves IsOutside s t ⊎ Flushes w s t
 FlushAnswer s w t w' (Err e) = (Evolves IsOutside s t ⊎ Flushes w s t) × (w ≡ [] → ⊥)
 
--- a store goes on waiting or not waiting, and stays listed
-abbrev pub Keeps : {X : Type 0} → (X → Bool) → (X → Bool) → X → X → Type 0
-Keeps waits is_listed old new = (waits new ≡ waits old) × (is_listed old ≡ true → is_listed new ≡ true)
+-- whatever it is called for, a store goes on waiting or not waiting, and its flush on being sure or not
+abbrev pub Stays : {X : Type 0} → (X → Bool) → (X → Bool) → X → X → Type 0
+Stays waits is_sure old new = (waits new ≡ waits old) × (is_sure new ≡ is_sure old)
+
+-- what a store recalls from its listing it has recalled before
+abbrev pub RecallsNoMore : {X : Type 0} → (X → Content → Type 0) → X → X → Type 0
+RecallsNoMore recalls old new = (c : Content) → recalls new c → recalls old c
+
+-- a call that lists nothing: the store is listed where it was, and recalls no more than it did
+abbrev pub Keeps : {X : Type 0} → (X → Bool) → (X → Content → Type 0) → X → X → Type 0
+Keeps is_listed recalls old new = (is_listed new ≡ is_listed old) × RecallsNoMore recalls old new
+
+-- a listing: the store is listed, or where it failed is so where it was, and recalls no more than it did
+abbrev pub KeepsByList : {X Y E : Type 0} → (X → Bool) → (X → Content → Type 0) → X → X → Result Y E → Type 0
+KeepsByList is_listed recalls old new (Ok found) = is_listed new ≡ true
+KeepsByList is_listed recalls old new (Err e) = Keeps is_listed recalls old new
+
+-- a flush: the store is listed only where it was, and recalls no more than it did
+abbrev pub KeepsByFlush : {X : Type 0} → (X → Bool) → (X → Content → Type 0) → X → X → Type 0
+KeepsByFlush is_listed recalls old new = (is_listed new ≡ true → is_listed old ≡ true) × RecallsNoMore recalls old new
 
 -- its writes don't wait, and it is listed
 abbrev pub IsReady : {X : Type 0} → (X → Bool) → (X → Bool) → X → Type 0
@@ -206,3 +232,9 @@ StoreCause rose NotThere = Unit {0}
 StoreCause rose (Vanished href) = Unit {0}
 StoreCause rose (BadItem href error) = error ≢ item_error.NoMemory
 StoreCause rose NoMemory = Unit {0}
+
+-- what the error of a folder is to the store over it
+abbrev pub error_of_folder : FolderError → StoreError
+error_of_folder folder_error.Fault = Fault
+error_of_folder folder_error.TooLong = TooLong
+error_of_folder folder_error.NoMemory = NoMemory

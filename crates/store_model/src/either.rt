@@ -25,6 +25,8 @@ impl<X: Store, Y: Store> Store for Either<X, Y> {
 
     ghost waits = { on_either X.waits Y.waits };
 
+    ghost is_sure = { on_either X.is_sure Y.is_sure };
+
     ghost waiting = { on_either X.waiting Y.waiting };
 
     ghost is_listed = { on_either X.is_listed Y.is_listed };

@@ -1,49 +1,14 @@
 //! The file names that a store chooses for new items.
 
 ghost use Rattle.std.specs.Prelude.{◌≡◌, ℕ, List, IfOk, string_bytes};
-ghost use Rattle.std.specs.List.{list_all};
 ghost use Rattle.std.specs.BTreeSet.{contains_text};
-ghost use Rattle.item_text.specs.Plain.{is_name_byte, begins_with_dot, is_plain};
 ghost use Rattle.store_model.specs.Names.{file_stem, candidate, IsFreeName};
 
+use item_text::is_plain;
 use outside::{NoMemory, etag_of};
 use std::alloc::Global;
 use std::collections::BTreeSet;
 use values::Text;
-
-/// The longest ident, in bytes, that is kept as a file's stem.
-const MAX_PLAIN: usize = 100;
-
-fn is_name_byte(b: u8) -> bool
-    ensures { result ≡ is_name_byte b }
-{
-    (b'a' <= b && b <= b'z')
-        || ((b'A' <= b && b <= b'Z')
-            || ((b'0' <= b && b <= b'9') || (b == b'_' || (b == b'-' || (b == b'.' || b == b'@')))))
-}
-
-fn begins_with_dot(bytes: &[u8]) -> bool
-    ensures { result ≡ begins_with_dot bytes.now }
-{
-    match bytes {
-        [] => false,
-        [first, ..] => *first == b'.',
-    }
-}
-
-fn are_name_bytes(bytes: &[u8]) -> bool
-    ensures { result ≡ list_all is_name_byte bytes.now }
-{
-    bytes.iter().all(|b| is_name_byte(*b))
-}
-
-fn is_plain(ident: &str) -> bool
-    ensures { result ≡ is_plain ident.now }
-{
-    let bytes = ident.as_bytes();
-    0 < bytes.len()
-        && (bytes.len() <= MAX_PLAIN && (!begins_with_dot(bytes) && are_name_bytes(bytes)))
-}
 
 /// The stem of the file name of a new item: its ident, where that is 1 to 100 bytes of ASCII
 /// letters, digits, `_`, `-`, `.` and `@` and doesn't begin with `.`; else the lower-case hex

@@ -1,9 +1,12 @@
 //! What a store is: the calls of every kind of storage, and what each may do.
 
-ghost use Rattle.std.specs.Prelude.{◌≡◌, ℕ, Bool, true, false, List, [], ◌∷◌, IfErr, OnOk};
+ghost use Rattle.std.specs.Prelude.{◌≡◌, ℕ, Bool, true, false, List, [], ◌∷◌, IfErr};
 ghost use Rattle.outside.specs.Causes.{Rose};
+ghost use Rattle.store_model.specs.declared.store.StoreError.TheVariants.{NoMemory as out_of_memory};
 
 use item_text::{Item, ItemError};
+use outside::{FolderError, NoMemory};
+use std::alloc::{AllocError, AllocFailed};
 use thiserror::Error;
 use values::Text;
 
@@ -69,15 +72,53 @@ pub enum StoreError {
     NoMemory,
 }
 
+impl From<NoMemory> for StoreError {
+    ghost from_gives = { λ _ e. e ≡ out_of_memory };
+
+    fn from(_error: NoMemory) -> StoreError {
+        StoreError::NoMemory
+    }
+}
+
+impl From<AllocError> for StoreError {
+    ghost from_gives = { λ _ e. e ≡ out_of_memory };
+
+    fn from(_error: AllocError) -> StoreError {
+        StoreError::NoMemory
+    }
+}
+
+impl<T: Drop> From<AllocFailed<T>> for StoreError {
+    ghost from_gives = { λ _ e. e ≡ out_of_memory };
+
+    fn from(_error: AllocFailed<T>) -> StoreError {
+        StoreError::NoMemory
+    }
+}
+
+impl From<FolderError> for StoreError {
+    ghost use Rattle.store_model.specs.StoreCalls.{error_of_folder};
+
+    ghost from_gives = { λ error e. e ≡ error_of_folder error };
+
+    fn from(error: FolderError) -> StoreError {
+        match error {
+            FolderError::Fault => StoreError::Fault,
+            FolderError::TooLong => StoreError::TooLong,
+            FolderError::NoMemory => StoreError::NoMemory,
+        }
+    }
+}
+
 /// A collection of items, each under an href with an etag, as every kind of storage offers it.
 ///
 /// What contracts say of its content they say of its `side`, where it `tells` it; edits from
 /// outside may come before each call's own work and after it.
 pub trait Store {
     ghost use Rattle.item_text.specs.Items.{ItemValue};
-    ghost use Rattle.store_model.specs.Sides.{Content, SideState, IsOutside, IsNoWrite, Sometime};
+    ghost use Rattle.store_model.specs.Sides.{Content, SideState, IsOutside, Sometime};
     ghost use Rattle.store_model.specs.Waits.{Change, over_at, gone_at, IsWriteOfThese};
-    ghost use Rattle.store_model.specs.StoreCalls.{StoreCause, Changes, Keeps, IsListed, TakenByList, TakenByPut, GetAnswer, IsPutOf, PutNewAnswer, PutOverAnswer, DropAnswer, FlushAnswer};
+    ghost use Rattle.store_model.specs.StoreCalls.{StoreCause, Changes, Stays, Keeps, KeepsByList, KeepsByFlush, IsListed, TakenByList, TakenByPut, IsGetOf, GetAnswer, IsPutOf, PutNewAnswer, PutOverAnswer, DropAnswer, FlushAnswer};
 
     /// The count of faults.
     ghost count: { Self → ℕ };
@@ -95,10 +136,13 @@ pub trait Store {
     /// Writes wait for `flush`.
     ghost waits: { Self → Bool };
 
+    /// `flush` can't fail.
+    ghost is_sure: { Self → Bool };
+
     /// The changes that wait, the first of them first.
     ghost waiting: { Self → List Change };
 
-    /// `list` has answered Ok.
+    /// `list` has answered Ok, and no flush since has ended that.
     ghost is_listed: { Self → Bool };
 
     /// What `list` found, where `get` answers from it.
@@ -122,19 +166,20 @@ pub trait Store {
         ensures changes { Changes count tells side IsOutside self.old self.new }
         ensures cause { IfErr result (StoreCause (Rose (count self.old) (count self.new))) }
         ensures answer { tells self.old → Sometime (IsListed (recalls self.new) result) (side self.old) (side self.new) }
-        ensures kept { Keeps waits is_listed self.old self.new }
+        ensures kind { Stays waits is_sure self.old self.new }
+        ensures kept { KeepsByList is_listed recalls self.old self.new result }
         ensures hrefs { TakenByList (taken self.old) (taken self.new) result }
-        ensures same { setting self.new ≡ setting self.old }
-        ensures listed { OnOk result (is_listed self.new ≡ true) };
+        ensures same { setting self.new ≡ setting self.old };
 
     /// The items at these hrefs, in their order. The first href that is gone, or whose text isn't
-    /// an item's, decides the error: `Vanished` or `BadItem`.
+    /// an item's, decides the error: `Vanished` or `BadItem`. No item is read but at these hrefs.
     fn get(&mut self, hrefs: &[Text]) -> Result<Vec<Fetched>, StoreError>
         requires { is_listed self.old ≡ true }
-        ensures changes { Changes count tells side IsNoWrite self.old self.new }
+        ensures changes { Changes count tells side (IsGetOf hrefs.now) self.old self.new }
         ensures cause { IfErr result (StoreCause (Rose (count self.old) (count self.new))) }
         ensures answer { tells self.old → GetAnswer (recalls self.old) (side self.old) (side self.new) hrefs.now result }
-        ensures kept { Keeps waits is_listed self.old self.new }
+        ensures kind { Stays waits is_sure self.old self.new }
+        ensures kept { Keeps is_listed recalls self.old self.new }
         ensures hrefs { (q : List ℕ) → taken self.new q ≡ taken self.old q }
         ensures same { setting self.new ≡ setting self.old };
 
@@ -145,7 +190,8 @@ pub trait Store {
         ensures changes { Changes count tells side (IsPutOf item.now) self.old self.new }
         ensures cause { IfErr result (StoreCause (Rose (count self.old) (count self.new))) }
         ensures answer { tells self.old → PutNewAnswer (waits self.old) (may_name self.old item.now) item.now (side self.old) (waiting self.old) (side self.new) (waiting self.new) result }
-        ensures kept { Keeps waits is_listed self.old self.new }
+        ensures kind { Stays waits is_sure self.old self.new }
+        ensures kept { Keeps is_listed recalls self.old self.new }
         ensures hrefs { TakenByPut (taken self.old) (taken self.new) result }
         ensures same { setting self.new ≡ setting self.old };
 
@@ -156,7 +202,8 @@ pub trait Store {
         ensures changes { Changes count tells side (IsWriteOfThese (over_at href.now etag.now item.now.text ∷ [])) self.old self.new }
         ensures cause { IfErr result (StoreCause (Rose (count self.old) (count self.new))) }
         ensures answer { tells self.old → PutOverAnswer (waits self.old) (over_at href.now etag.now item.now.text) (side self.old) (waiting self.old) (side self.new) (waiting self.new) result }
-        ensures kept { Keeps waits is_listed self.old self.new }
+        ensures kind { Stays waits is_sure self.old self.new }
+        ensures kept { Keeps is_listed recalls self.old self.new }
         ensures hrefs { (q : List ℕ) → taken self.new q ≡ taken self.old q }
         ensures same { setting self.new ≡ setting self.old };
 
@@ -167,16 +214,20 @@ pub trait Store {
         ensures changes { Changes count tells side (IsWriteOfThese (gone_at href.now etag.now ∷ [])) self.old self.new }
         ensures cause { IfErr result (StoreCause (Rose (count self.old) (count self.new))) }
         ensures answer { tells self.old → DropAnswer (waits self.old) (gone_at href.now etag.now) (side self.old) (waiting self.old) (side self.new) (waiting self.new) result }
-        ensures kept { Keeps waits is_listed self.old self.new }
+        ensures kind { Stays waits is_sure self.old self.new }
+        ensures kept { Keeps is_listed recalls self.old self.new }
         ensures hrefs { (q : List ℕ) → taken self.new q ≡ taken self.old q }
         ensures same { setting self.new ≡ setting self.old };
 
-    /// Lets the waiting changes act, all of them or none. Without any it writes nothing.
+    /// Lets the waiting changes act, all of them or none. Without any it writes nothing. A store
+    /// whose flush is sure answers Ok.
     fn flush(&mut self) -> Result<(), StoreError>
         ensures changes { Changes count tells side (IsWriteOfThese (waiting self.old)) self.old self.new }
         ensures cause { IfErr result (StoreCause (Rose (count self.old) (count self.new))) }
         ensures answer { tells self.old → FlushAnswer (side self.old) (waiting self.old) (side self.new) (waiting self.new) result }
-        ensures kept { waits self.new ≡ waits self.old }
+        ensures sure { IfErr result (λ e. is_sure self.old ≡ false) }
+        ensures kind { Stays waits is_sure self.old self.new }
+        ensures kept { KeepsByFlush is_listed recalls self.old self.new }
         ensures hrefs { (q : List ℕ) → taken self.new q ≡ taken self.old q }
         ensures same { setting self.new ≡ setting self.old };
 

@@ -4,7 +4,7 @@ ghost use Rattle.std.specs.Prelude.{◌≡◌, ◌≢◌, ◌⊎◌, ◌≤◌, 
 ghost use Rattle.std.specs.List.{AllByRecursion};
 ghost use Rattle.outside.specs.Causes.{Rose};
 ghost use Rattle.store_model.specs.Sides.{IsNoWrite, Sometime, Lacks, WasEdited};
-ghost use Rattle.store_model.specs.StoreCalls.{StoreCause, Changes, Keeps, IsReady, IsListing, IsListed, IsKnown, WasFetched, WasGot};
+ghost use Rattle.store_model.specs.StoreCalls.{StoreCause, Changes, Stays, Keeps, KeepsByList, IsReady, IsListing, IsListed, IsKnown, WasFetched, WasGot};
 ghost use Rattle.sync_run.specs.Ends.{Never, end_of, unloaded_end, IsCausedEnd, IsEarlyEnd, IsEndOfSide, IsUnloaded};
 ghost use Rattle.sync_run.specs.Reads.{IsTrueOfStatus, IsStorageEnd, IsShown, IsToldAs, IsGotError};
 ghost use Rattle.status_keeper.specs.Idents.{IsRising};
@@ -71,9 +71,9 @@ fn list_side<S: Store>(store: &mut S, side: Side) -> Result<Vec<Entry>, JobEnd>
     ensures early { IfErr result IsEarlyEnd }
     ensures end { IfErr result (IsEndOfSide side (StoreCause (Rose (S.count store.old) (S.count store.new)))) }
     ensures shown { S.tells store.old → IfErr result (IsStorageEnd side (IsToldAs (λ e. Sometime (IsListing (Err e)) (S.side store.old) (S.side store.new)))) }
-    ensures kept { Keeps S.waits S.is_listed store.old store.new }
+    ensures kind { Stays S.waits S.is_sure store.old store.new }
+    ensures kept { KeepsByList S.is_listed S.recalls store.old store.new result }
     ensures same { S.setting store.new ≡ S.setting store.old }
-    ensures ready { OnOk result (S.is_listed store.new ≡ true) }
     ensures known { S.tells store.old → OnOk result (WasEdited (S.side store.old) (S.side store.new) ⊎ IsKnown (S.taken store.new) (S.side store.new)) }
 {
     match store.list() {
@@ -102,7 +102,8 @@ fn get_side<S: Store>(
     ensures early { IfErr result IsEarlyEnd }
     ensures end { IfErr result (IsEndOfSide side (StoreCause (Rose (S.count store.old) (S.count store.new)))) }
     ensures shown { S.tells store.old → IfErr result (IsStorageEnd side (IsToldAs (IsGotError (S.recalls store.old) (S.side store.old) (S.side store.new) (map (λ e. e.href) entries.items)))) }
-    ensures kept { Keeps S.waits S.is_listed store.old store.new }
+    ensures kind { Stays S.waits S.is_sure store.old store.new }
+    ensures kept { Keeps S.is_listed S.recalls store.old store.new }
     ensures same { S.setting store.new ≡ S.setting store.old }
     ensures taken { (q : List ℕ) → S.taken store.new q ≡ S.taken store.old q }
 {

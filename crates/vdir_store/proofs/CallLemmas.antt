@@ -13,6 +13,7 @@ use Rattle.outside.specs.Files.{FolderState}
 use Rattle.outside.specs.FolderCalls as folder_calls
 use Rattle.outside.specs.FolderCalls.{AfterEdits, NamesAnswer, ReadAnswer}
 use Rattle.outside.specs.declared.folder.FileEntry.{FileEntry}
+use Rattle.outside.specs.declared.folder.FolderError.{FolderError}
 use Rattle.outside.specs.declared.folder.FolderError.TheVariants as folder_error
 use Rattle.outside.specs.declared.folder.FolderEvent.TheVariants as folder_event
 use Rattle.outside.specs.Runs.{after}
@@ -22,7 +23,7 @@ use Rattle.item_text.specs.declared.item.ItemError.TheVariants as item_error
 use Rattle.store_model.specs.Sides as sides
 use Rattle.store_model.specs.Sides.{SideState, Since, Sometime, IsTrueEvent}
 use Rattle.store_model.specs.StoreCalls as store_calls
-use Rattle.store_model.specs.StoreCalls.{is_short, IsListing, WasFetched, HasFault, read_of}
+use Rattle.store_model.specs.StoreCalls.{is_short, IsListing, WasFetched, HasFault, read_of, error_of_folder}
 use Rattle.store_model.specs.declared.event.Held.{Held}
 use Rattle.store_model.specs.declared.event.StoreEvent.TheVariants.{Read}
 use Rattle.store_model.specs.declared.store.Entry.{Entry}
@@ -49,11 +50,10 @@ at_end ending s t Was edits was = record { moment = side_of ending t; from = Sin
 pub list_not_there : (ending : List ℕ) (s t : FolderState) → AfterEdits s (λ m. NamesAnswer m t ending (Ok None)) → Sometime (IsListing (Err store_error.NotThere)) (side_of ending s) (side_of ending t)
 list_not_there ending s t h = at_end ending s t (IsListing (Err store_error.NotThere)) (to_end h.edits h.does.0) (ap (λ (x : FolderState). x.is_there) h.does.0 ∙ h.does.1)
 
-pub list_fault : (ending : List ℕ) (s t : FolderState) → AfterEdits s (λ m. NamesAnswer m t ending (Err folder_error.Fault)) → Sometime (IsListing (Err store_error.Fault)) (side_of ending s) (side_of ending t)
-list_fault ending s t h = at_end ending s t (IsListing (Err store_error.Fault)) (to_end h.edits h.does) tt
-
-pub list_no_memory : (ending : List ℕ) (s t : FolderState) → AfterEdits s (λ m. NamesAnswer m t ending (Err folder_error.NoMemory)) → Sometime (IsListing (Err store_error.NoMemory)) (side_of ending s) (side_of ending t)
-list_no_memory ending s t h = at_end ending s t (IsListing (Err store_error.NoMemory)) (to_end h.edits h.does) tt
+pub list_failed : (ending : List ℕ) (s t : FolderState) (e : FolderError) → AfterEdits s (λ m. NamesAnswer m t ending (Err e)) → Sometime (IsListing (Err (error_of_folder e))) (side_of ending s) (side_of ending t)
+list_failed ending s t folder_error.Fault h = at_end ending s t (IsListing (Err store_error.Fault)) (to_end h.edits h.does) tt
+list_failed ending s t folder_error.TooLong h = absurd h.does
+list_failed ending s t folder_error.NoMemory h = at_end ending s t (IsListing (Err store_error.NoMemory)) (to_end h.edits h.does) tt
 
 pub list_no_memory_later : (ending : List ℕ) (s t : FolderState) (found : Vec FileEntry Global) → AfterEdits s (λ m. NamesAnswer m t ending (Ok (Some found))) → Sometime (IsListing (Err store_error.NoMemory)) (side_of ending s) (side_of ending t)
 list_no_memory_later ending s t found h = at_end ending s t (IsListing (Err store_error.NoMemory)) (to_end h.edits h.does.0) tt

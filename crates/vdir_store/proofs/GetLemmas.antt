@@ -1,11 +1,14 @@
 -- A get of several hrefs, one after another.
-use Rattle.std.proofs.Common.{◌≡◌, ℕ, suc, ◌+◌, ◌<◌, ◌≤◌, length, get_or, take, drop, add-one, drop-cons, List, [], ◌∷◌, ◌++◌, map, inl, Ok, Err, sym, ap, ◌∙◌, subst, append_assoc, append-nil}
+use Rattle.std.proofs.Common.{◌≡◌, ℕ, suc, ◌+◌, ◌<◌, ◌≤◌, length, get_or, take, drop, add-one, drop-cons, List, [], ◌∷◌, ◌++◌, map, inl, inr, refl, Ok, Err, sym, ap, ◌∙◌, subst, append_assoc, append-nil}
 use Rattle.std.specs.List.{AllByRecursion}
 use Rattle.std.proofs.lemmas.List.{map-append, take-append-drop, take_more, take_all}
 use Rattle.std.specs.declared.vec.Vec.{Vec}
 use Rattle.std.specs.declared.alloc.Global.{Global}
 use Rattle.store_model.specs.Sides.{SideState, Since, Sometime}
-use Rattle.store_model.specs.StoreCalls.{WasFetched, HasFault, StopsAt, GetAnswer, read_of}
+use Rattle.store_model.specs.StoreCalls.{WasFetched, HasFault, StopsAt, IsGetOf, GetAnswer, read_of}
+use Rattle.store_model.specs.Waits.{In}
+use Rattle.store_model.specs.declared.event.StoreEvent.{StoreEvent}
+use Rattle.store_model.specs.declared.event.StoreEvent.TheVariants.{Edited, Toggled, Wrote, Read}
 use Rattle.store_model.specs.declared.store.Fetched.{Fetched}
 use Rattle.store_model.specs.declared.store.StoreError.{StoreError}
 use Rattle.store_model.specs.declared.store.StoreError.TheVariants as store_error
@@ -56,6 +59,21 @@ get_stops hrefs all rest given s m t name (store_error.BadItem href error) first
 -- the hrefs before the i-th, the i-th, and the others
 pub at_turn : (all : List (List ℕ)) (i : ℕ) (x name : List ℕ) → i < length all → x ≡ get_or all i x → name ≡ x → all ≡ take i all ++ name ∷ drop (i + 1) all
 at_turn all i x name h e same = sym (take-append-drop i all) ∙ ap (λ l. take i all ++ l) (rw (add-one, drop-cons all i x) (ap (λ y. y ∷ drop (suc i) all) (sym (same ∙ e))))
+
+in_middle : (x : List ℕ) (before after : List (List ℕ)) → In x (before ++ x ∷ after)
+in_middle x [] after = inl refl
+in_middle x (y ∷ before) after = inr (in_middle x before after)
+
+one_of_these : (all : List (List ℕ)) (name : List ℕ) → In name all → (e : StoreEvent) → IsGetOf (name ∷ []) e → IsGetOf all e
+one_of_these all name h (Edited href old new) kind = tt
+one_of_these all name h Toggled kind = tt
+one_of_these all name h (Wrote href old new sent) kind = absurd kind
+one_of_these all name h (Read href text) (inl same) = subst (λ (x : List ℕ). In x all) (sym same) h
+one_of_these all name h (Read href text) (inr none) = absurd none
+
+-- reading at the i-th of these hrefs is reading at these hrefs
+pub get_of_these : (all : List (List ℕ)) (i : ℕ) (x name : List ℕ) → i < length all → x ≡ get_or all i x → name ≡ x → (e : StoreEvent) → IsGetOf (name ∷ []) e → IsGetOf all e
+get_of_these all i x name h e same = one_of_these all name (subst (λ (l : List (List ℕ)). In name l) (sym (at_turn all i x name h e same)) (in_middle name (take i all) (drop (i + 1) all)))
 
 one_turn : (all : List (List ℕ)) (i : ℕ) (x name : List ℕ) → i < length all → x ≡ get_or all i x → name ≡ x → take i all ++ name ∷ [] ≡ take (i + 1) all
 one_turn all i x name h e same = ap (λ y. take i all ++ y ∷ []) (same ∙ e) ∙ sym (take_more all i x h)

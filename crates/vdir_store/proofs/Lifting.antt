@@ -1,5 +1,5 @@
 -- What happens to the folder happens to the side.
-use Rattle.std.proofs.Common.{◌≡◌, ℕ, Bool, true, false, cond, not, List, [], ◌∷◌, ◌++◌, Option, Some, None, refl, sym, ap, ◌∙◌, subst, append-nil}
+use Rattle.std.proofs.Common.{◌≡◌, ℕ, Bool, true, false, cond, not, List, [], ◌∷◌, ◌++◌, Option, Some, None, refl, sym, ap, ◌∙◌, subst, append-nil, inl}
 use Rattle.std.specs.Prelude.{if◌then◌else◌}
 use Rattle.std.specs.List.{filter_map}
 use Rattle.std.specs.Option.{option_map}
@@ -109,10 +109,10 @@ outside_kind ending (folder_event.Read name bytes) kind = absurd kind
 outside_kind ending folder_event.Toggled kind = tt
 outside_kind ending folder_event.Made kind = absurd kind
 
-read_kind : (ending name : List ℕ) (e : FolderEvent) → IsReadOf name e → ForEvent sides.IsNoWrite (event_of ending e)
-read_kind ending of (folder_event.Edited name old new) kind = seen_kind sides.IsNoWrite (Edited name (option_map held_of old) (option_map held_of new)) (is_item ending name) tt
+read_kind : (ending name : List ℕ) (e : FolderEvent) → IsReadOf name e → ForEvent (store_calls.IsGetOf (name ∷ [])) (event_of ending e)
+read_kind ending of (folder_event.Edited name old new) kind = seen_kind (store_calls.IsGetOf (of ∷ [])) (Edited name (option_map held_of old) (option_map held_of new)) (is_item ending name) tt
 read_kind ending of (folder_event.Wrote name old new) kind = absurd kind
-read_kind ending of (folder_event.Read name bytes) kind = seen_kind sides.IsNoWrite (Read name bytes) (is_item ending name) tt
+read_kind ending of (folder_event.Read name bytes) kind = seen_kind (store_calls.IsGetOf (of ∷ [])) (Read name bytes) (is_item ending name) (inl kind)
 read_kind ending of folder_event.Toggled kind = tt
 read_kind ending of folder_event.Made kind = absurd kind
 
@@ -143,17 +143,17 @@ seen : (ending : List ℕ) (Of : FolderEvent → Type 0) (Kind : StoreEvent → 
 seen ending Of Kind none truly kinds s t run =
     Runs-lift (side_of ending) (λ s e of is_true. subst (λ (x : SideState). sides.Evolves Kind (side_of ending s) x) (sym (side_of-happens ending s e (none e of) is_true)) (one_seen (side_of ending s) (event_of ending e) (truly s e of is_true) (kinds e of))) run
 
--- edits from outside of the folder are edits from outside of the side, and a call that reads is one that doesn't write
+-- edits from outside of the folder are edits from outside of the side, and a call that reads a file reads at its href
 pub outside_seen : (ending : List ℕ) (s t : FolderState) → folders.Evolves folders.IsOutside s t → sides.Evolves sides.IsOutside (side_of ending s) (side_of ending t)
 outside_seen ending s t run = seen ending folders.IsOutside sides.IsOutside (outside_beside ending) (outside_true ending) (outside_kind ending) s t run
 
-pub read_seen : (ending name : List ℕ) (s t : FolderState) → folders.Evolves (IsReadOf name) s t → sides.Evolves sides.IsNoWrite (side_of ending s) (side_of ending t)
-read_seen ending name s t run = seen ending (IsReadOf name) sides.IsNoWrite (read_beside ending name) (reads_true ending name) (read_kind ending name) s t run
+pub read_seen : (ending name : List ℕ) (s t : FolderState) → folders.Evolves (IsReadOf name) s t → sides.Evolves (store_calls.IsGetOf (name ∷ [])) (side_of ending s) (side_of ending t)
+read_seen ending name s t run = seen ending (IsReadOf name) (store_calls.IsGetOf (name ∷ [])) (read_beside ending name) (reads_true ending name) (read_kind ending name) s t run
 
 -- and so are the changes of a call
 module _ {X : Type 0} {count : X → ℕ} {tells : X → Type 0} {state : X → FolderState} where
   pub Changes-outside : (ending : List ℕ) (old new : X) → folders.Changes count tells state folders.IsOutside old new → store_calls.Changes count tells (λ x. side_of ending (state x)) sides.IsOutside old new
   Changes-outside ending old new changes = record { later = changes.later; told = λ t. let end = changes.told t in (end.0, outside_seen ending (state old) (state new) end.1) }
 
-  pub Changes-read : (ending name : List ℕ) (old new : X) → folders.Changes count tells state (IsReadOf name) old new → store_calls.Changes count tells (λ x. side_of ending (state x)) sides.IsNoWrite old new
+  pub Changes-read : (ending name : List ℕ) (old new : X) → folders.Changes count tells state (IsReadOf name) old new → store_calls.Changes count tells (λ x. side_of ending (state x)) (store_calls.IsGetOf (name ∷ [])) old new
   Changes-read ending name old new changes = record { later = changes.later; told = λ t. let end = changes.told t in (end.0, read_seen ending name (state old) (state new) end.1) }

@@ -11,13 +11,14 @@ use Rattle.outside.specs.FolderCalls.{AfterEdits, ReplaceAnswer, RemoveAnswer, m
 use Rattle.outside.specs.declared.folder.Expect.{Expect}
 use Rattle.outside.specs.declared.folder.Expect.TheVariants.{Absent, Etag}
 use Rattle.outside.specs.declared.folder.Change.TheVariants as change
+use Rattle.outside.specs.declared.folder.FolderError.{FolderError}
 use Rattle.outside.specs.declared.folder.FolderError.TheVariants as folder_error
 use Rattle.outside.specs.declared.folder.FolderEvent.TheVariants as folder_event
 use Rattle.item_text.specs.Items.{ItemValue, item_of}
 use Rattle.store_model.specs.Sides as sides
 use Rattle.store_model.specs.Sides.{SideState}
 use Rattle.store_model.specs.Waits.{Change, fits_at, fits, new_at, gone_at, Acts}
-use Rattle.store_model.specs.StoreCalls.{PutNewAnswer, PutOverAnswer, DropAnswer, Unsent}
+use Rattle.store_model.specs.StoreCalls.{PutNewAnswer, PutOverAnswer, DropAnswer, Unsent, error_of_folder}
 use Rattle.store_model.specs.declared.event.Held.{Held}
 use Rattle.store_model.specs.declared.event.StoreEvent.TheVariants.{Wrote}
 use Rattle.store_model.specs.declared.store.Put.{Put}
@@ -106,14 +107,13 @@ moved_at ending c s m t edits same off =
 pub write_moved : (ending name : List ℕ) (expect : Expect) (item : ItemValue) (s t : FolderState) → is_item ending name ≡ true → AfterEdits s (λ m. ReplaceAnswer m t name expect item.text (Ok change.Moved)) → PutOverAnswer false (change_of name expect (Some item.text)) (side_of ending s) [] (side_of ending t) [] (Err store_error.Moved)
 write_moved ending name expect item s t is h = moved_at ending (change_of name expect (Some item.text)) s h.moment t h.edits h.does.1 (fits-meets ending name expect (Some item.text) h.moment is ∙ h.does.0)
 
-pub write_fault : (ending name : List ℕ) (expect : Expect) (item : ItemValue) (s t : FolderState) → is_item ending name ≡ true → item_of item.text ≡ Some item → AfterEdits s (λ m. ReplaceAnswer m t name expect item.text (Err folder_error.Fault)) → PutOverAnswer false (change_of name expect (Some item.text)) (side_of ending s) [] (side_of ending t) [] (Err store_error.Fault)
-write_fault ending name expect item s t is good h = elim h.does [
+pub write_failed : (ending name : List ℕ) (expect : Expect) (item : ItemValue) (s t : FolderState) (e : FolderError) → is_item ending name ≡ true → item_of item.text ≡ Some item → AfterEdits s (λ m. ReplaceAnswer m t name expect item.text (Err e)) → PutOverAnswer false (change_of name expect (Some item.text)) (side_of ending s) [] (side_of ending t) [] (Err (error_of_folder e))
+write_failed ending name expect item s t folder_error.Fault is good h = elim h.does [
   | inl same ↦ (inl (outside_seen ending s t (to_end h.edits same)), refl)
   | inr acted ↦ (inr (written ending name expect item s h.moment t is good h.edits acted.0 acted.1).0, refl)
 ]
-
-pub write_no_memory : (ending name : List ℕ) (expect : Expect) (item : ItemValue) (s t : FolderState) → AfterEdits s (λ m. ReplaceAnswer m t name expect item.text (Err folder_error.NoMemory)) → PutOverAnswer false (change_of name expect (Some item.text)) (side_of ending s) [] (side_of ending t) [] (Err store_error.NoMemory)
-write_no_memory ending name expect item s t h = (inl (outside_seen ending s t (to_end h.edits h.does)), refl)
+write_failed ending name expect item s t folder_error.TooLong is good h = absurd h.does
+write_failed ending name expect item s t folder_error.NoMemory is good h = (inl (outside_seen ending s t (to_end h.edits h.does)), refl)
 
 -- a name that no item has is nothing to write over or to take away
 off_at : (a b : Bool) → b ≡ false → (a && b) ≡ false
@@ -152,19 +152,15 @@ drop_done ending name tag s t is h =
 pub drop_moved : (ending name tag : List ℕ) (s t : FolderState) → is_item ending name ≡ true → AfterEdits s (λ m. RemoveAnswer m t name tag (Ok change.Moved)) → DropAnswer false (gone_at name tag) (side_of ending s) [] (side_of ending t) [] (Err store_error.Moved)
 drop_moved ending name tag s t is h = moved_at ending (gone_at name tag) s h.moment t h.edits h.does.1 (has_tagged-fits ending name tag h.moment is ∙ h.does.0)
 
-pub drop_fault : (ending name tag : List ℕ) (s t : FolderState) → is_item ending name ≡ true → AfterEdits s (λ m. RemoveAnswer m t name tag (Err folder_error.Fault)) → DropAnswer false (gone_at name tag) (side_of ending s) [] (side_of ending t) [] (Err store_error.Fault)
-drop_fault ending name tag s t is h = elim h.does [
+pub drop_failed : (ending name tag : List ℕ) (s t : FolderState) (e : FolderError) → is_item ending name ≡ true → AfterEdits s (λ m. RemoveAnswer m t name tag (Err e)) → DropAnswer false (gone_at name tag) (side_of ending s) [] (side_of ending t) [] (Err (error_of_folder e))
+drop_failed ending name tag s t folder_error.Fault is h = elim h.does [
   | inl same ↦ (inl (outside_seen ending s t (to_end h.edits same)), refl)
   | inr acted ↦ (inr (removed ending name tag s h.moment t is h.edits acted.0 acted.1).0, refl)
 ]
-
-pub drop_no_memory : (ending name tag : List ℕ) (s t : FolderState) → AfterEdits s (λ m. RemoveAnswer m t name tag (Err folder_error.NoMemory)) → DropAnswer false (gone_at name tag) (side_of ending s) [] (side_of ending t) [] (Err store_error.NoMemory)
-drop_no_memory ending name tag s t h = (inl (outside_seen ending s t (to_end h.edits h.does)), refl)
+drop_failed ending name tag s t folder_error.TooLong is h = absurd h.does
+drop_failed ending name tag s t folder_error.NoMemory is h = (inl (outside_seen ending s t (to_end h.edits h.does)), refl)
 
 -- ---- put_new
-
-pub put_nothing : (may : List ℕ → Type 0) (item : ItemValue) (s : SideState) → PutNewAnswer false may item s [] s [] (Err store_error.NoMemory)
-put_nothing may item s = inl (Evolves-refl s, refl)
 
 pub put_ok : (may : List ℕ → Type 0) (name : List ℕ) (item : ItemValue) (s t : SideState) (put : Put) (tag : Option (List ℕ)) → put.href ≡ name → put.etag ≡ tag → may name → PutOverAnswer false (new_at name item.text) s [] t [] (Ok tag) → PutNewAnswer false may item s [] t [] (Ok put)
 put_ok may name item s t put tag href etag chosen sent =

@@ -1,13 +1,13 @@
 //! What the store's calls do with its folder.
 
-ghost use Rattle.std.specs.Prelude.{[], ◌≡◌, ◌≤◌, ◌⊎◌, ℕ, List, true, false, Some, filter, map, IfOk, IfErr, string_bytes, IsTrue};
+ghost use Rattle.std.specs.Prelude.{[], ◌∷◌, ◌≡◌, ◌≤◌, ◌⊎◌, ℕ, List, true, false, Some, filter, map, IfOk, IfErr, string_bytes, IsTrue};
 ghost use Rattle.std.specs.List.{list_all};
 ghost use Rattle.std.specs.BTreeSet.{contains_text};
 ghost use Rattle.outside.specs.Causes.{Rose};
-ghost use Rattle.store_model.specs.Sides.{IsOutside, IsNoWrite, Sometime};
+ghost use Rattle.store_model.specs.Sides.{IsOutside, Sometime};
 ghost use Rattle.store_model.specs.Waits.{over_at, gone_at};
 ghost use Rattle.store_model.specs.Names.{file_stem, IsFreeName};
-ghost use Rattle.store_model.specs.StoreCalls.{StoreCause, Changes, is_short, IsListing, TakenByList, TakenByPut, GetAnswer, PutNewAnswer, PutOverAnswer, DropAnswer};
+ghost use Rattle.store_model.specs.StoreCalls.{StoreCause, Changes, is_short, IsListing, TakenByList, TakenByPut, IsGetOf, GetAnswer, PutNewAnswer, PutOverAnswer, DropAnswer};
 ghost use Rattle.vdir_store.specs.Names.{is_item, is_ending, SpeaksOf};
 ghost use Rattle.vdir_store.specs.Vdir.{side_of};
 ghost use Rattle.vdir_store.specs.VdirCalls.{listed_entry, IsBadItem, FetchAnswer, change_of};
@@ -64,16 +64,10 @@ pub fn listing<F: Folder>(
     ensures cause { IfErr result (StoreCause (Rose (F.count folder.old) (F.count folder.new))) }
     ensures answer { F.tells folder.old → Sometime (IsListing result) (side_of ending.now (F.state folder.old)) (side_of ending.now (F.state folder.new)) }
 {
-    let files = match folder.names(ending) {
-        Ok(Some(files)) => files,
-        Ok(None) => return Err(StoreError::NotThere),
-        Err(FolderError::Fault) => return Err(StoreError::Fault),
-        Err(FolderError::TooLong) => return Err(StoreError::TooLong),
-        Err(FolderError::NoMemory) => return Err(StoreError::NoMemory),
+    let Some(files) = folder.names(ending)? else {
+        return Err(StoreError::NotThere);
     };
-    let Ok(entries) = item_entries(alloc, ending, files) else {
-        return Err(StoreError::NoMemory);
-    };
+    let entries = item_entries(alloc, ending, files)?;
     if entries.len() > MAX_ITEMS {
         return Err(StoreError::TooMany);
     }
@@ -95,14 +89,8 @@ pub fn refresh<F: Folder>(
     ensures answer { F.tells folder.old → Sometime (IsListing result) (side_of ending.now (F.state folder.old)) (side_of ending.now (F.state folder.new)) }
     ensures names { TakenByList (contains_text names.old) (contains_text names.new) result }
 {
-    let entries = match listing(folder, alloc, ending) {
-        Ok(entries) => entries,
-        Err(error) => return Err(error),
-    };
-    let Ok(now) = names_of(alloc, entries.as_slice()) else {
-        return Err(StoreError::NoMemory);
-    };
-    *names = now;
+    let entries = listing(folder, alloc, ending)?;
+    *names = names_of(alloc, entries.as_slice())?;
     Ok(entries)
 }
 
@@ -135,7 +123,7 @@ pub fn fetch<F: Folder>(
     ending: &str,
     name: &str,
 ) -> Result<Fetched, StoreError>
-    ensures changes { Changes F.count F.tells (λ f. side_of ending.now (F.state f)) IsNoWrite folder.old folder.new }
+    ensures changes { Changes F.count F.tells (λ f. side_of ending.now (F.state f)) (IsGetOf (name.now ∷ [])) folder.old folder.new }
     ensures cause { IfErr result (StoreCause (Rose (F.count folder.old) (F.count folder.new))) }
     ensures answer { F.tells folder.old → FetchAnswer (side_of ending.now (F.state folder.old)) (side_of ending.now (F.state folder.new)) name.now result }
 {
@@ -153,12 +141,8 @@ pub fn fetch<F: Folder>(
         Ok(item) => item,
         Err(error) => return Err(bad_item(alloc, name, error)),
     };
-    let Ok(etag) = etag_of(alloc, bytes.as_slice()) else {
-        return Err(StoreError::NoMemory);
-    };
-    let Ok(href) = Text::copy_of(alloc, name) else {
-        return Err(StoreError::NoMemory);
-    };
+    let etag = etag_of(alloc, bytes.as_slice())?;
+    let href = Text::copy_of(alloc, name)?;
     Ok(Fetched { href, etag, item })
 }
 
@@ -169,7 +153,7 @@ pub fn fetch_all<F: Folder>(
     ending: &str,
     hrefs: &[Text],
 ) -> Result<Vec<Fetched>, StoreError>
-    ensures changes { Changes F.count F.tells (λ f. side_of ending.now (F.state f)) IsNoWrite folder.old folder.new }
+    ensures changes { Changes F.count F.tells (λ f. side_of ending.now (F.state f)) (IsGetOf hrefs.now) folder.old folder.new }
     ensures cause { IfErr result (StoreCause (Rose (F.count folder.old) (F.count folder.new))) }
     ensures answer { F.tells folder.old → GetAnswer (λ c. ⊥) (side_of ending.now (F.state folder.old)) (side_of ending.now (F.state folder.new)) hrefs.now result }
 {
@@ -202,15 +186,10 @@ pub fn write<F: Folder>(
     ensures answer { is_item ending.now name.now ≡ true → F.tells folder.old → PutOverAnswer false (change_of name.now expect.entry (Some item.now.text)) (side_of ending.now (F.state folder.old)) [] (side_of ending.now (F.state folder.new)) [] result }
 {
     let bytes = item.text().as_bytes();
-    let Ok(etag) = etag_of(alloc, bytes) else {
-        return Err(StoreError::NoMemory);
-    };
-    match folder.replace(name, expect, bytes) {
-        Ok(Change::Done) => Ok(Some(etag)),
-        Ok(Change::Moved) => Err(StoreError::Moved),
-        Err(FolderError::Fault) => Err(StoreError::Fault),
-        Err(FolderError::TooLong) => Err(StoreError::TooLong),
-        Err(FolderError::NoMemory) => Err(StoreError::NoMemory),
+    let etag = etag_of(alloc, bytes)?;
+    match folder.replace(name, expect, bytes)? {
+        Change::Done => Ok(Some(etag)),
+        Change::Moved => Err(StoreError::Moved),
     }
 }
 
@@ -229,18 +208,10 @@ pub fn put_item<F: Folder>(
     ensures answer { SpeaksOf ending.now → F.tells folder.old → PutNewAnswer false (IsFreeName (contains_text names.old) (file_stem item.now.ident) ending.now) item.now (side_of ending.now (F.state folder.old)) [] (side_of ending.now (F.state folder.new)) [] result }
     ensures names { TakenByPut (contains_text names.old) (contains_text names.new) result }
 {
-    let Ok(stem) = file_stem(alloc, item.ident()) else {
-        return Err(StoreError::NoMemory);
-    };
-    let Ok(name) = free_name(alloc, stem.as_str(), ending, names) else {
-        return Err(StoreError::NoMemory);
-    };
-    let Ok(kept) = String::from_str(alloc, name.as_str()) else {
-        return Err(StoreError::NoMemory);
-    };
-    let Ok(_) = names.insert(kept) else {
-        return Err(StoreError::NoMemory);
-    };
+    let stem = file_stem(alloc, item.ident())?;
+    let name = free_name(alloc, stem.as_str(), ending, names)?;
+    let kept = String::from_str(alloc, name.as_str())?;
+    let _ = names.insert(kept)?;
     match write(folder, alloc, ending, name.as_str(), Expect::Absent, item) {
         Ok(etag) => Ok(Put {
             href: Text::of(name),
@@ -288,11 +259,8 @@ pub fn take_away<F: Folder>(
     if !is_item(ending, name) {
         return Err(StoreError::Moved);
     }
-    match folder.remove(name, tag) {
-        Ok(Change::Done) => Ok(()),
-        Ok(Change::Moved) => Err(StoreError::Moved),
-        Err(FolderError::Fault) => Err(StoreError::Fault),
-        Err(FolderError::TooLong) => Err(StoreError::TooLong),
-        Err(FolderError::NoMemory) => Err(StoreError::NoMemory),
+    match folder.remove(name, tag)? {
+        Change::Done => Ok(()),
+        Change::Moved => Err(StoreError::Moved),
     }
 }

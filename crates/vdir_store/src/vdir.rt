@@ -1,6 +1,6 @@
 //! The store over a folder, which keeps one file per item.
 
-ghost use Rattle.std.specs.Prelude.{◌≡◌, ℕ, List, [], false, IsTrue};
+ghost use Rattle.std.specs.Prelude.{◌≡◌, ℕ, List, [], true, false, IsTrue};
 ghost use Rattle.std.specs.BTreeSet.{contains_text};
 ghost use Rattle.vdir_store.specs.Names.{is_ending};
 
@@ -42,6 +42,7 @@ impl<F: Folder> VdirStore<F> {
         ensures side { ⟦<VdirStore<F> as Store>⟧.side result ≡ side_of ending (F.state folder) }
         ensures setting { ⟦<VdirStore<F> as Store>⟧.setting result ≡ ending }
         ensures waits { ⟦<VdirStore<F> as Store>⟧.waits result ≡ false }
+        ensures sure { ⟦<VdirStore<F> as Store>⟧.is_sure result ≡ true }
         ensures waiting { ⟦<VdirStore<F> as Store>⟧.waiting result ≡ [] }
         ensures listed { ⟦<VdirStore<F> as Store>⟧.is_listed result ≡ false }
     {
@@ -85,6 +86,8 @@ impl<F: Folder> Store for VdirStore<F> {
     ghost setting = { λ v. v.ending };
 
     ghost waits = { λ v. false };
+
+    ghost is_sure = { λ v. true };
 
     ghost waiting = { λ v. [] };
 
