@@ -11,36 +11,39 @@ use Rattle.sync_plan.specs.declared.rules.ConflictRule.TheVariants.{Null, AWins,
 use Rattle.sync_plan.specs.declared.rules.Rules.{Rules}
 use Rattle.sync_plan.specs.declared.dues.Step.{Step}
 use Rattle.sync_plan.specs.declared.dues.Step.TheVariants.{Forget, Keep, CopyTo, WriteOver, RemoveFrom, HandOver, Conflict, Held}
-use Rattle.sync_plan.specs.Verdicts.{Versions, Due, Gone, At, Unsettled, verdict, by_rule, differing, by_sides, table, is_read_only, hold, other_side, due_of, step_of, wins, IsOpen}
-use Rattle.sync_plan.specs.JobSteps.{on_side, written}
+use Rattle.sync_plan.specs.Verdicts.{Versions, Due, Gone, At, Unsettled, verdict, by_rule, differing, by_sides, table, is_read_only, hold, other_side, due_of, step_of, wins, IsNeither, IsOpen}
+use Rattle.sync_plan.specs.JobSteps.{on_side, answer_over, written, IsNamed}
 use Rattle.sync_plan.proofs.Facts.{versions, Fits, verdict_fits}
 use Rattle.sync_plan.proofs.Emptied.{Allows, step_allows}
 
--- what is removed or written over is the row's, or the rule names it
+-- what is removed or written over is the row's, or neither side is at the row's version and the rule names what is written
 abbrev Names : ConflictRule → Step → Versions → Type 0
 Names rule Forget v = Unit {0}
 Names rule Keep v = Unit {0}
 Names rule (CopyTo side) v = Unit {0}
-Names rule (WriteOver side) v = (on_side side v ≡ v.s) ⊎ (rule ≡ wins (other_side side))
+Names rule (WriteOver side) v = (on_side side v ≡ v.s) ⊎ ((rule ≡ wins (other_side side)) × IsNeither v)
 Names rule (RemoveFrom side) v = on_side side v ≡ v.s
-Names rule HandOver v = Unit {0}
+Names rule HandOver v = (rule ≡ Command) × IsNeither v
 Names rule Conflict v = Unit {0}
 Names rule (Held side) v = Unit {0}
 
-by_rule_names : (rule : ConflictRule) (v w : List ℕ) (s : Option (List ℕ)) → Names rule (by_rule rule v w).step (versions (Some v) (Some w) s)
-by_rule_names AWins v w s = inr refl
-by_rule_names BWins v w s = inr refl
-by_rule_names Command v w s = tt
-by_rule_names Null v w s = tt
+by_rule_names : (rule : ConflictRule) (v w : List ℕ) (s : Option (List ℕ)) → IsNeither (versions (Some v) (Some w) s) → Names rule (by_rule rule v w).step (versions (Some v) (Some w) s)
+by_rule_names AWins v w s neither = inr (refl, neither)
+by_rule_names BWins v w s neither = inr (refl, neither)
+by_rule_names Command v w s neither = (refl, neither)
+by_rule_names Null v w s neither = tt
+
+unlike : (x s : List ℕ) → (x ≡ s → false ≡ true) → Some x ≡ Some s → ⊥
+unlike x s only same = false≢true (only (let one : x ≡ s = cc in one))
 
 differing_names : (rule : ConflictRule) (v w : List ℕ) (s : Option (List ℕ)) → Names rule (differing rule v w s).step (versions (Some v) (Some w) s)
-differing_names rule v w None = by_rule_names rule v w None
-differing_names rule v w (Some s) = at (bytes_eq v s) (bytes_eq w s) (bytes_eq-Decides v s).0 (bytes_eq-Decides w s).0
+differing_names rule v w None = by_rule_names rule v w None (record { not_a = λ same. cc; not_b = λ same. cc })
+differing_names rule v w (Some s) = at (bytes_eq v s) (bytes_eq w s) (bytes_eq-Decides v s).0 (bytes_eq-Decides w s).0 (bytes_eq-Decides v s).1 (bytes_eq-Decides w s).1
   where
-    at : (p q : Bool) → (p ≡ true → v ≡ s) → (q ≡ true → w ≡ s) → Names rule (cond p (verdict (At w) (WriteOver A)) (cond q (verdict (At v) (WriteOver B)) (by_rule rule v w))).step (versions (Some v) (Some w) (Some s))
-    at true q is_v is_w = inl (ap Some (is_v refl))
-    at false true is_v is_w = inl (ap Some (is_w refl))
-    at false false is_v is_w = by_rule_names rule v w (Some s)
+    at : (p q : Bool) → (p ≡ true → v ≡ s) → (q ≡ true → w ≡ s) → (v ≡ s → p ≡ true) → (w ≡ s → q ≡ true) → Names rule (cond p (verdict (At w) (WriteOver A)) (cond q (verdict (At v) (WriteOver B)) (by_rule rule v w))).step (versions (Some v) (Some w) (Some s))
+    at true q is_v is_w if_v if_w = inl (ap Some (is_v refl))
+    at false true is_v is_w if_v if_w = inl (ap Some (is_w refl))
+    at false false is_v is_w if_v if_w = by_rule_names rule v w (Some s) (record { not_a = unlike v s if_v; not_b = unlike w s if_w })
 
 by_sides_names : (rule : ConflictRule) (a b s : Option (List ℕ)) → Names rule (by_sides rule a b s).step (versions a b s)
 by_sides_names rule None None s = tt
@@ -84,15 +87,56 @@ hold_names rules due HandOver v names = at (rules.a_read_only || rules.b_read_on
   where
     at : (p : Bool) → Names rules.conflict (cond p (verdict Unsettled Conflict) (verdict due HandOver)).step v
     at true = tt
-    at false = tt
+    at false = names
 hold_names rules due Conflict v names = tt
 hold_names rules due (Held side) v names = tt
 
 step_names : (rules : Rules) (v : Versions) → Names rules.conflict (step_of rules v) v
 step_names rules v = hold_names rules (table rules.conflict v).due (table rules.conflict v).step v (by_sides_names rules.conflict v.a v.b v.s)
 
-pub overwrite_named : (rules : Rules) (v : Versions) (side : Side) → step_of rules v ≡ WriteOver side → (on_side side v ≡ v.s) ⊎ (rules.conflict ≡ wins (other_side side))
-overwrite_named rules v side is = subst (λ (s : Step). Names rules.conflict s v) is (step_names rules v)
+-- a step that writes nothing
+nothing : {T : Type 0} (to : Option (List ℕ)) → None ≡ Some to → T
+nothing to is = absurd (cc)
+
+-- what stands where nothing stands
+missing : {T : Type 0} (o : Option (List ℕ)) (version : List ℕ) → o ≡ None → o ≡ Some version → T
+missing o version none some = absurd (let clash : None ≡ Some version = sym none ∙ some in cc)
+
+over_named : (rules : Rules) (answer : Option (List ℕ)) (side : Side) (v : Versions) (version : List ℕ) (to : Option (List ℕ)) → on_side side v ≡ Some version → (on_side side v ≡ v.s) ⊎ ((rules.conflict ≡ wins (other_side side)) × IsNeither v) → Some (on_side (other_side side) v) ≡ Some to → IsNamed rules answer side v version to
+over_named rules answer side v version to here (inl row) is = inl (sym row ∙ here)
+over_named rules answer side v version to here (inr (rule, neither)) is = inr (neither, inl (rule, let one : on_side (other_side side) v ≡ to = cc in sym one))
+
+answer_named : (rules : Rules) (answer own : Option (List ℕ)) (side : Side) (v : Versions) (version : List ℕ) (to : Option (List ℕ)) → own ≡ Some version → (rules.conflict ≡ Command) × IsNeither v → answer_over answer own ≡ Some to → IsNamed rules answer side v version to
+answer_named rules None own side v version to here names is = nothing to is
+answer_named rules (Some m) None side v version to here names is = missing None version refl here
+answer_named rules (Some m) (Some x) side v version to here names is = at (bytes_eq m x) is
+  where
+    at : (p : Bool) → cond p None (Some (Some m)) ≡ Some to → IsNamed rules (Some m) side v version to
+    at true none = nothing to none
+    at false one = inr (names.1, inr (names.0, let same : Some m ≡ to = cc in (m, refl, sym same)))
+
+step_named : (rules : Rules) (step : Step) (due : Due) (answer : Option (List ℕ)) (side : Side) (v : Versions) (version : List ℕ) (to : Option (List ℕ)) → Names rules.conflict step v → Fits step due v → on_side side v ≡ Some version → written step answer side v ≡ Some to → IsNamed rules answer side v version to
+step_named rules Forget due answer side v version to names fits here is = nothing to is
+step_named rules Keep due answer side v version to names fits here is = nothing to is
+step_named rules (CopyTo A) due answer A v version to names (x, at_x, none, theirs) here is = missing v.a version none here
+step_named rules (CopyTo A) due answer B v version to names fits here is = nothing to is
+step_named rules (CopyTo B) due answer A v version to names fits here is = nothing to is
+step_named rules (CopyTo B) due answer B v version to names (x, at_x, none, theirs) here is = missing v.b version none here
+step_named rules (WriteOver A) due answer A v version to names fits here is = over_named rules answer A v version to here names is
+step_named rules (WriteOver A) due answer B v version to names fits here is = nothing to is
+step_named rules (WriteOver B) due answer A v version to names fits here is = nothing to is
+step_named rules (WriteOver B) due answer B v version to names fits here is = over_named rules answer B v version to here names is
+step_named rules (RemoveFrom A) due answer A v version to names fits here is = inl (sym names ∙ here)
+step_named rules (RemoveFrom A) due answer B v version to names fits here is = nothing to is
+step_named rules (RemoveFrom B) due answer A v version to names fits here is = nothing to is
+step_named rules (RemoveFrom B) due answer B v version to names fits here is = inl (sym names ∙ here)
+step_named rules HandOver due answer A v version to names fits here is = answer_named rules answer v.a A v version to here names is
+step_named rules HandOver due answer B v version to names fits here is = answer_named rules answer v.b B v version to here names is
+step_named rules Conflict due answer side v version to names fits here is = nothing to is
+step_named rules (Held held) due answer side v version to names fits here is = nothing to is
+
+pub overwrite_named : (rules : Rules) (answer : Option (List ℕ)) (side : Side) (v : Versions) (version : List ℕ) (to : Option (List ℕ)) → on_side side v ≡ Some version → written (step_of rules v) answer side v ≡ Some to → IsNamed rules answer side v version to
+overwrite_named rules answer side v version to here is = step_named rules (step_of rules v) (due_of rules v) answer side v version to (step_names rules v) (verdict_fits rules v) here is
 
 pub removal_named : (rules : Rules) (v : Versions) (side : Side) → step_of rules v ≡ RemoveFrom side → (on_side side v ≡ v.s) × (on_side (other_side side) v ≡ None)
 removal_named rules v side is =

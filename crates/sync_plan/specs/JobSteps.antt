@@ -8,7 +8,8 @@ use Rattle.sync_plan.specs.declared.rules.Partial.TheVariants.{Error, Ignore, Re
 use Rattle.sync_plan.specs.declared.rules.Rules.{Rules}
 use Rattle.sync_plan.specs.declared.dues.Step.{Step}
 use Rattle.sync_plan.specs.declared.dues.Step.TheVariants.{Forget, Keep, CopyTo, WriteOver, RemoveFrom, HandOver, Conflict, Held}
-use Rattle.sync_plan.specs.Verdicts.{Versions, Due, Gone, At, Unsettled, other_side, due_of, step_of}
+use Rattle.sync_plan.specs.declared.rules.ConflictRule.TheVariants.{Command}
+use Rattle.sync_plan.specs.Verdicts.{Versions, Due, Gone, At, Unsettled, other_side, due_of, step_of, wins, IsNeither}
 
 -- all idents
 abbrev pub State : Type 0
@@ -44,6 +45,10 @@ written Forget answer side v = None
 written Keep answer side v = None
 written Conflict answer side v = None
 written (Held to) answer side v = None
+
+-- what may be written where this version stands: it is the row's, or neither side is at the row's version and the rule names what is written
+abbrev pub IsNamed : Rules → Option (List ℕ) → Side → Versions → List ℕ → Option (List ℕ) → Type 0
+IsNamed rules answer side v version to = (v.s ≡ Some version) ⊎ (IsNeither v × (((rules.conflict ≡ wins (other_side side)) × (to ≡ on_side (other_side side) v)) ⊎ ((rules.conflict ≡ Command) × ((m : List ℕ) × (answer ≡ Some m) × (to ≡ Some m)))))
 
 -- a side is as before, or it is what the step writes there
 abbrev pub SideStep : Step → Option (List ℕ) → Side → Versions → Option (List ℕ) → Type 0

@@ -124,6 +124,11 @@ abbrev pub wins : Side → ConflictRule
 wins A = AWins
 wins B = BWins
 
+-- neither side is at the version that the status has
+pub record IsNeither (v : Versions) : Type 0 where
+  pub not_a : v.a ≡ v.s → ⊥
+  pub not_b : v.b ≡ v.s → ⊥
+
 -- ---- the same of the code's values
 
 abbrev pub version_in : Option Fp → Option (List ℕ)

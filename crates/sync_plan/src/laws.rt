@@ -4,9 +4,9 @@ ghost use Rattle.std.specs.Prelude.{◌≡◌, ◌⊎◌, ℕ, List, [], ◌∷�
 ghost use Rattle.sync_plan.specs.declared.report.Side.{Side};
 ghost use Rattle.sync_plan.specs.declared.report.Side.TheVariants.{A, B};
 ghost use Rattle.sync_plan.specs.declared.rules.Rules.{Rules};
-ghost use Rattle.sync_plan.specs.declared.dues.Step.TheVariants.{WriteOver, RemoveFrom};
-ghost use Rattle.sync_plan.specs.Verdicts.{Versions, At, Unsettled, is_read_only, other_side, due_of, step_of, version_of, wins, IsOpen, IsUndisputed};
-ghost use Rattle.sync_plan.specs.JobSteps.{State, all_at, on_side, written, CleanStep};
+ghost use Rattle.sync_plan.specs.declared.dues.Step.TheVariants.{RemoveFrom};
+ghost use Rattle.sync_plan.specs.Verdicts.{Versions, At, Unsettled, is_read_only, other_side, due_of, step_of, version_of, IsOpen, IsUndisputed};
+ghost use Rattle.sync_plan.specs.JobSteps.{State, all_at, on_side, written, IsNamed, CleanStep};
 ghost use Rattle.sync_plan.specs.Stories.{Run, IsRun, IsStory, IsWholeStory, IsFull, IsEmptied};
 
 /// No step writes to a read-only side, whatever a command answers.
@@ -21,10 +21,11 @@ pub fn removal_is_of_the_row()
         step_of rules v ≡ RemoveFrom side → (on_side side v ≡ v.s) × (on_side (other_side side) v ≡ None) }
 {}
 
-/// What is written over is the version that the status has, or the rule says that the other side wins.
+/// Where a step writes something, or nothing, in the place of a version, that is the version that the status has; or neither
+/// side is at it, and the conflict rule names what is written.
 pub fn overwrite_is_named()
-    ensures { (rules : Rules) (v : Versions) (side : Side) →
-        step_of rules v ≡ WriteOver side → (on_side side v ≡ v.s) ⊎ (rules.conflict ≡ wins (other_side side)) }
+    ensures { (rules : Rules) (v : Versions) (answer : Option (List ℕ)) (side : Side) (version : List ℕ) (to : Option (List ℕ)) →
+        on_side side v ≡ Some version → written (step_of rules v) answer side v ≡ Some to → IsNamed rules answer side v version to }
 {}
 
 /// An ident is unsettled exactly where its step is HandOver, Conflict or Held.

@@ -1,0 +1,4 @@
+pub mod TakenLemmas
+pub mod SideLemmas
+pub mod StepLemmas
+pub mod NamedLemmas

@@ -1,0 +1,5 @@
+pub mod Courses
+pub mod Taken
+pub mod Writes
+pub mod Jobs
+pub mod Named

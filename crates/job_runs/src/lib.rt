@@ -1,0 +1,7 @@
+//! What one run of one job may do, whatever faults and edits from outside it meets, and what follows from it for each
+//! ident. Nothing calls it yet: it is what a run over the whole table is to prove of itself.
+#![tactic(auto)]
+
+mod laws;
+
+pub use laws::{overwrites_are_named, rows_may_be_trusted, run_is_a_job_step, writes_have_sources};
