@@ -1,3 +1,4 @@
+pub mod Eithers
 pub mod Opened
 pub mod Places
 pub mod Printing

@@ -3,6 +3,7 @@
 
 mod config;
 mod config_read;
+mod either;
 mod job;
 mod naming;
 mod one_job;
@@ -14,4 +15,5 @@ mod texts;
 mod top_call;
 mod words;
 
+pub use either::Either;
 pub use top_call::{Env, run_words};

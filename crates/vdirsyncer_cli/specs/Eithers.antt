@@ -1,8 +1,8 @@
 -- What is said of one of two stores: what the store that is held says (this project's own).
 use Rattle.std.specs.Prelude.{◌≡◌, ℕ, Bool, false, List}
 use Rattle.item_text.specs.Items.{ItemValue}
-use Rattle.store_model.specs.declared.either.Either.{Either}
-use Rattle.store_model.specs.declared.either.Either.TheVariants.{Left, Right}
+use Rattle.vdirsyncer_cli.specs.declared.either.Either.{Either}
+use Rattle.vdirsyncer_cli.specs.declared.either.Either.TheVariants.{Left, Right}
 
 -- by the store that is held
 abbrev pub on_either {ℓ} : {X Y : Type 0} {Z : Type ℓ} → (X → Z) → (Y → Z) → Either X Y → Z

@@ -1,7 +1,7 @@
 //! One of two kinds of store, as a store: a job's side may be of either.
 
-use crate::store::{Entry, Fetched, Put, Store, StoreError};
 use item_text::Item;
+use store_model::{Entry, Fetched, Put, Store, StoreError};
 use values::Text;
 
 /// A store of one kind or of another. Every call is the held store's own.
@@ -12,7 +12,7 @@ pub enum Either<X, Y> {
 }
 
 impl<X: Store, Y: Store> Store for Either<X, Y> {
-    ghost use Rattle.store_model.specs.Eithers.{on_either, free_by_either};
+    ghost use Rattle.vdirsyncer_cli.specs.Eithers.{on_either, free_by_either};
     ghost use Rattle.store_model.specs.Sides.{SideState};
 
     ghost count = { on_either X.count Y.count };
