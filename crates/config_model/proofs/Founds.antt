@@ -2,7 +2,7 @@
 use Rattle.std.proofs.Common.{◌≡◌, ℕ, ◌+◌, ◌<◌, ◌≤◌, suc, List, [], ◌∷◌, ◌++◌, length, drop, get_or, Option, Some, None, refl, sym, ◌∙◌, ap, append-nil, append_assoc, add-one, drop-cons, arith}
 use Rattle.std.specs.Prelude.{option_map, option_and_then}
 use Rattle.std.proofs.Math.ListN.{drop_of_length-le}
-use Rattle.config_ini.specs.Meanings.{all_found}
+use Rattle.config_model.specs.Meanings.{all_found}
 use Rattle.config_ini.proofs.Collected.{onto}
 
 module _ {A B : Type 0} (f : A → Option B) where

@@ -1,13 +1,13 @@
 -- The keys of each section (this project's own).
 use Rattle.std.specs.Prelude.{ℕ, Bool, true, false, not, ◌&&◌, if◌then◌else◌, List, codes, Option, Some, None}
 use Rattle.std.specs.Str.{bytes_eq}
-use Rattle.config_ini.specs.declared.storage_kind.StorageKind.{StorageKind}
-use Rattle.config_ini.specs.declared.storage_kind.StorageKind.TheVariants.{Filesystem, Singlefile, Caldav, Carddav}
+use Rattle.config_model.specs.declared.storage_kind.StorageKind.{StorageKind}
+use Rattle.config_model.specs.declared.storage_kind.StorageKind.TheVariants.{Filesystem, Singlefile, Caldav, Carddav}
 use Rattle.config_ini.specs.declared.kinds.Key.{Key}
-use Rattle.config_ini.specs.declared.fields.Field.{Field}
-use Rattle.config_ini.specs.declared.fields.Field.TheVariants as field
-use Rattle.config_ini.specs.declared.fields.Place.{Place}
-use Rattle.config_ini.specs.declared.fields.Place.TheVariants as place
+use Rattle.config_model.specs.declared.fields.Field.{Field}
+use Rattle.config_model.specs.declared.fields.Field.TheVariants as field
+use Rattle.config_model.specs.declared.fields.Place.{Place}
+use Rattle.config_model.specs.declared.fields.Place.TheVariants as place
 
 abbrev pub general_field : List ℕ → Option Field
 general_field name = if bytes_eq name (codes "status_path") then Some field.StatusPath else None

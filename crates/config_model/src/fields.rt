@@ -1,9 +1,9 @@
 //! The keys of each section.
 
 ghost use Rattle.std.specs.Prelude.{◌≡◌, ◌≢◌, Some, None};
-ghost use Rattle.config_ini.specs.Fields as spec;
+ghost use Rattle.config_model.specs.Fields as spec;
 
-use crate::kinds::Key;
+use config_ini::Key;
 use crate::storage_kind::StorageKind;
 
 /// A section by the keys that it may have.

@@ -2,10 +2,16 @@
 use Rattle.std.specs.Prelude.{ℕ, ◌==◌, Bool, true, false, not, ◌&&◌, ◌||◌, nat_le, nat_lt, if◌then◌else◌, List, [], ◌∷◌, length, codes, Option, Some, None, option_map, option_and_then}
 use Rattle.std.specs.List.{list_any}
 use Rattle.std.specs.Str.{bytes_eq}
-use Rattle.config_ini.specs.declared.storage_kind.StorageKind.{StorageKind}
-use Rattle.config_ini.specs.declared.storage_kind.StorageKind.TheVariants.{Filesystem, Singlefile, Caldav, Carddav}
-use Rattle.config_ini.specs.declared.wanted.Wanted.{Wanted}
-use Rattle.config_ini.specs.declared.wanted.Wanted.TheVariants.{FromA, FromB, Named}
+use Rattle.config_model.specs.declared.storage_kind.StorageKind.{StorageKind}
+use Rattle.config_model.specs.declared.storage_kind.StorageKind.TheVariants.{Filesystem, Singlefile, Caldav, Carddav}
+use Rattle.config_model.specs.declared.rules.ConflictRule.TheVariants.{Null, AWins, BWins, Command}
+use Rattle.config_model.specs.declared.rules.Partial.{Partial}
+use Rattle.config_model.specs.declared.rules.Partial.TheVariants.{Error, Ignore, Revert}
+use Rattle.config_model.specs.declared.rules.MetaKey.{MetaKey}
+use Rattle.config_model.specs.declared.rules.MetaKey.TheVariants.{Displayname, Color}
+use Rattle.config_model.specs.declared.meanings.Conflict.{Conflict}
+use Rattle.config_model.specs.declared.wanted.Wanted.{Wanted}
+use Rattle.config_model.specs.declared.wanted.Wanted.TheVariants.{FromA, FromB, Named}
 use Rattle.config_ini.specs.declared.setting.Setting.{Setting}
 use Rattle.config_ini.specs.declared.setting.Setting.TheVariants as setting
 use Rattle.config_ini.specs.declared.setting.Part.{Part}
@@ -104,3 +110,61 @@ fetching words = if is_command words || is_one_text words then Some words else N
 -- how a text is fetched: by a command, by a line of the shell, or by asking for it
 abbrev pub fetch_in : Setting → Option (List (List ℕ))
 fetch_in value = option_and_then fetching (texts_in value)
+
+-- ---- the rules of a pair
+
+abbrev pub partial_named : List ℕ → Option Partial
+partial_named name =
+    if bytes_eq name (codes "error") then Some Error
+    else if bytes_eq name (codes "ignore") then Some Ignore
+    else if bytes_eq name (codes "revert") then Some Revert
+    else None
+
+abbrev pub partial_in : Setting → Option Partial
+partial_in value = option_and_then partial_named (text_in value)
+
+abbrev pub meta_named : List ℕ → Option MetaKey
+meta_named name =
+    if bytes_eq name (codes "displayname") then Some Displayname
+    else if bytes_eq name (codes "color") then Some Color
+    else None
+
+abbrev pub meta_of : Part → Option MetaKey
+meta_of (part.Text text) = meta_named text
+meta_of (part.Texts texts) = None
+
+abbrev pub no_metadata : List MetaKey
+no_metadata = []
+
+abbrev pub metadata_in : Setting → Option (List MetaKey)
+metadata_in setting.Null = Some no_metadata
+metadata_in (setting.List parts) = all_found meta_of parts
+metadata_in _ = None
+
+-- a conflict is told, and nobody wins
+abbrev pub no_rule : Conflict
+no_rule = record { rule = Null; command = [] }
+
+abbrev pub rule_named : List ℕ → Option Conflict
+rule_named name =
+    if bytes_eq name (codes "a wins") then Some (record { rule = AWins; command = [] })
+    else if bytes_eq name (codes "b wins") then Some (record { rule = BWins; command = [] })
+    else None
+
+abbrev pub is_part : List ℕ → Part → Bool
+is_part word (part.Text text) = bytes_eq text word
+is_part word (part.Texts texts) = false
+
+abbrev pub ruled_by : List (List ℕ) → Conflict
+ruled_by command = record { rule = Command; command = command }
+
+-- `command`, a program and its arguments
+abbrev pub rule_listed : List Part → Option Conflict
+rule_listed [] = None
+rule_listed (first ∷ command) = if is_part (codes "command") first && nat_lt 0 (length command) then option_map ruled_by (all_found plain command) else None
+
+abbrev pub conflict_in : Setting → Option Conflict
+conflict_in setting.Null = Some no_rule
+conflict_in (setting.Text text) = rule_named text
+conflict_in (setting.List parts) = rule_listed parts
+conflict_in _ = None
