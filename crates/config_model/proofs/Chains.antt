@@ -1,12 +1,12 @@
 -- Steps that may be refused, one after another.
-use Rattle.std.proofs.Common.{◌≡◌, ap}
+use Rattle.std.proofs.Common.{◌≡◌, ◌≢◌, sym, ◌∙◌, ap}
 use Rattle.std.specs.Prelude.{Result, Ok, Err}
+use Rattle.std.specs.Result.{IsErrAnd}
 use Rattle.config_ini.specs.declared.error.ConfigError.{ConfigError}
-use Rattle.config_ini.specs.Answers.{◌>>=◌}
+use Rattle.config_ini.specs.declared.error.ConfigError.TheVariants.{NoMemory}
+use Rattle.config_ini.specs.Answers.{Gives}
 
-module _ {A B : Type 0} where
-  pub bind_ok : (m : Result A ConfigError) (f : A → Result B ConfigError) (a : A) → m ≡ Ok a → (m >>= f) ≡ f a
-  bind_ok m f a is = ap (λ (r : Result A ConfigError). r >>= f) is
-
-  pub bind_err : (m : Result A ConfigError) (f : A → Result B ConfigError) (e : ConfigError) → m ≡ Err e → (m >>= f) ≡ Err e
-  bind_err m f e is = ap (λ (r : Result A ConfigError). r >>= f) is
+-- a refusal is handed on
+pub refused : {A : Type 0} (must found : Result A ConfigError) (e : ConfigError) → IsErrAnd found (λ x. x ≡ e) → (e ≢ NoMemory → must ≡ Err e) → Gives must found
+refused must (Ok a) e is h = absurd is
+refused {A} must (Err x) e is h = λ other. h (λ none. other (is ∙ none)) ∙ ap (λ (y : ConfigError). let r : Result A ConfigError = Err y in r) (sym is)

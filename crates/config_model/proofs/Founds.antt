@@ -1,8 +1,9 @@
 -- Lists of which each part is looked at in turn.
-use Rattle.std.proofs.Common.{◌≡◌, ℕ, ◌+◌, ◌<◌, ◌≤◌, suc, List, [], ◌∷◌, ◌++◌, length, drop, get_or, Option, Some, None, refl, sym, ◌∙◌, ap, append-nil, append_assoc, add-one, drop-cons, arith}
+use Rattle.std.proofs.Common.{◌≡◌, ℕ, ◌+◌, ◌<◌, ◌≤◌, List, [], ◌∷◌, ◌++◌, length, drop, get_or, Option, Some, None, refl, sym, ◌∙◌, ap, append-nil, append_assoc}
 use Rattle.std.specs.Prelude.{option_map, option_and_then}
 use Rattle.std.proofs.Math.ListN.{drop_of_length-le}
 use Rattle.config_model.specs.Meanings.{all_found}
+use Rattle.config_model.proofs.Rests.{rest_is}
 use Rattle.config_ini.proofs.Collected.{onto}
 
 module _ {A B : Type 0} (f : A → Option B) where
@@ -13,9 +14,6 @@ module _ {A B : Type 0} (f : A → Option B) where
   onto_next : (done : List B) (y : B) (found : Option (List B)) → onto done (option_map (λ ys. y ∷ ys) found) ≡ onto (done ++ y ∷ []) found
   onto_next done y None = refl
   onto_next done y (Some more) = ap (λ (ys : List B). Some ys) (sym (append_assoc done (y ∷ []) more))
-
-  rest_is : (xs : List A) (i : ℕ) (x : A) → i < length xs → x ≡ get_or xs i x → drop i xs ≡ x ∷ drop (i + 1) xs
-  rest_is xs i x within is = drop-cons xs i x within ∙ ap (λ (a : A). a ∷ drop (suc i) xs) (sym is) ∙ ap (λ k. x ∷ drop k xs) (sym (add-one i))
 
   pub part_found : (done next : List B) (y : B) (xs : List A) (i : ℕ) (x : A) → i < length xs → x ≡ get_or xs i x → next ≡ done ++ y ∷ [] → f x ≡ Some y
       → onto done (all_found f (drop i xs)) ≡ all_found f xs → onto next (all_found f (drop (i + 1) xs)) ≡ all_found f xs

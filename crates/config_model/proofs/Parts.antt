@@ -1,5 +1,5 @@
 -- What the sections so far say, with what the later ones say.
-use Rattle.std.proofs.Common.{◌≡◌, ℕ, ◌+◌, ◌<◌, ◌≤◌, suc, List, [], ◌∷◌, ◌++◌, length, drop, get_or, Option, Some, None, Ok, Err, refl, sym, ◌∙◌, ap, append-nil, append_assoc, add-one, drop-cons, arith}
+use Rattle.std.proofs.Common.{◌≡◌, ℕ, ◌+◌, ◌<◌, ◌≤◌, List, [], ◌∷◌, ◌++◌, length, drop, get_or, Option, Some, None, Ok, Err, refl, sym, ◌∙◌, ap, append-nil, append_assoc}
 use Rattle.std.specs.Prelude.{Result}
 use Rattle.std.specs.Option.{option_or}
 use Rattle.std.proofs.Math.ListN.{drop_of_length-le}
@@ -9,13 +9,11 @@ use Rattle.config_ini.specs.Answers.{◌>>=◌}
 use Rattle.config_model.specs.declared.config.PairConf.{PairConf}
 use Rattle.config_model.specs.declared.config.StorageConf.{StorageConf}
 use Rattle.config_model.specs.declared.reading.Parts.{Parts}
+use Rattle.config_model.proofs.Rests.{rest_is}
 use Rattle.config_model.specs.Reading.{no_parts, joined, part_of, parts_of}
 
 abbrev pub together : Parts → Result Parts ConfigError → Result Parts ConfigError
 together parts found = found >>= λ later. Ok (joined parts later)
-
-parts_by : Option (List ℕ) → List PairConf → List StorageConf → Parts
-parts_by path pairs storages = record { status_path = path; pairs = pairs; storages = storages }
 
 or_assoc : (o p q : Option (List ℕ)) → option_or (option_or o p) q ≡ option_or o (option_or p q)
 or_assoc None p q = refl
@@ -47,9 +45,6 @@ next_is section rest = refl
 together_next : (p q : Parts) (found : Result Parts ConfigError) → together (joined p q) found ≡ together p (together q found)
 together_next p q (Ok later) = ap (λ (x : Parts). Ok x) (joined_assoc p q later)
 together_next p q (Err e) = refl
-
-rest_is : (xs : List Section) (i : ℕ) (x : Section) → i < length xs → x ≡ get_or xs i x → drop i xs ≡ x ∷ drop (i + 1) xs
-rest_is xs i x within is = drop-cons xs i x within ∙ ap (λ (a : Section). a ∷ drop (suc i) xs) (sym is) ∙ ap (λ k. x ∷ drop k xs) (sym (add-one i))
 
 pub part_read : (parts next part : Parts) (sections : List Section) (i : ℕ) (section : Section) → i < length sections → section ≡ get_or sections i section → next ≡ joined parts part → part_of section ≡ Ok part
     → together parts (parts_of (drop i sections)) ≡ parts_of sections → together next (parts_of (drop (i + 1) sections)) ≡ parts_of sections

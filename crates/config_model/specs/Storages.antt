@@ -1,5 +1,5 @@
 -- A section of a storage (this project's own).
-use Rattle.std.specs.Prelude.{ℕ, Bool, true, false, List, [], ◌∷◌, ◌++◌, codes, Option, Some, None, option_map, if◌then◌else◌, Result, Ok, Err}
+use Rattle.std.specs.Prelude.{ℕ, Bool, false, List, [], ◌∷◌, ◌++◌, codes, Option, Some, None, option_map, if◌then◌else◌, Result, Ok, Err}
 use Rattle.config_ini.specs.declared.error.ConfigError.{ConfigError}
 use Rattle.config_ini.specs.declared.setting.Setting.{Setting}
 use Rattle.config_ini.specs.declared.setting.Entry.{Entry}

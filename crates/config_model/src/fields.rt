@@ -3,8 +3,8 @@
 ghost use Rattle.std.specs.Prelude.{◌≡◌, ◌≢◌, Some, None};
 ghost use Rattle.config_model.specs.Fields as spec;
 
-use config_ini::Key;
 use crate::storage_kind::StorageKind;
+use config_ini::Key;
 
 /// A section by the keys that it may have.
 #[derive(Clone, Copy)]

@@ -1,6 +1,6 @@
 //! The keys of one section: what is refused of them, and what their values are.
 
-ghost use Rattle.std.specs.Prelude.{◌≡◌, ◌≢◌, ◌++◌, ◌&&◌, not, Some, None, IfOk, MatchResult};
+ghost use Rattle.std.specs.Prelude.{◌≡◌, ◌≢◌, false, not, Some, None, IfOk, MatchResult};
 ghost use Rattle.std.specs.List.{find};
 ghost use Rattle.std.specs.Option.{is_some, option_copied};
 ghost use Rattle.std.specs.Str.{bytes_eq};
@@ -12,8 +12,8 @@ ghost use Rattle.config_model.specs.Keys as spec;
 
 use crate::fields::{Field, Place, field_of};
 use crate::meanings::{
-    Conflict, collections_in, conflict_in, fetch_in, kind_in, metadata_in, no_rule, partial_in, text_in,
-    truth_in,
+    Conflict, collections_in, conflict_in, fetch_in, kind_in, metadata_in, no_rule, partial_in,
+    text_in, truth_in,
 };
 use crate::rules::{MetaKey, Partial};
 use crate::storage_kind::StorageKind;
@@ -129,9 +129,7 @@ pub(crate) fn find_refused(
 fn plain_at<'a>(name: &str, entries: &'a [Entry]) -> Option<&'a Entry>
     ensures { option_copied result ≡ spec.plain_at name.now entries.now }
 {
-    entries
-        .iter()
-        .find(|entry| entry.key.name.as_str() == name && !entry.key.is_fetched)
+    entries.iter().find(|entry| entry.key.name.as_str() == name && !entry.key.is_fetched)
 }
 
 /// The key of this name, however it is written.
@@ -159,6 +157,7 @@ pub(crate) fn missing(alloc: Global, section: &str, key: &str) -> Result<ConfigE
     Ok(ConfigError::Missing { section, key })
 }
 
+#[tactic(auto, unfolding(crate::specs::Keys::needed))]
 pub(crate) fn needed_text(
     alloc: Global,
     section: &str,
@@ -176,6 +175,7 @@ pub(crate) fn needed_text(
     }
 }
 
+#[tactic(auto, unfolding(crate::specs::Keys::needed))]
 pub(crate) fn needed_kind(
     alloc: Global,
     section: &str,
@@ -190,6 +190,7 @@ pub(crate) fn needed_kind(
     }
 }
 
+#[tactic(auto, unfolding(crate::specs::Keys::needed))]
 pub(crate) fn needed_collections(
     alloc: Global,
     section: &str,
@@ -204,6 +205,7 @@ pub(crate) fn needed_collections(
     }
 }
 
+#[tactic(auto, unfolding(crate::specs::Keys::optional))]
 pub(crate) fn optional_truth(name: &str, entries: &[Entry]) -> Result<bool, ConfigError>
     ensures { result ≡ spec.optional meaning.truth_in false name.now entries.now }
 {
@@ -213,6 +215,7 @@ pub(crate) fn optional_truth(name: &str, entries: &[Entry]) -> Result<bool, Conf
     }
 }
 
+#[tactic(auto, unfolding(crate::specs::Keys::optional))]
 pub(crate) fn optional_rule(
     alloc: Global,
     name: &str,
@@ -226,6 +229,7 @@ pub(crate) fn optional_rule(
     }
 }
 
+#[tactic(auto, unfolding(crate::specs::Keys::optional))]
 pub(crate) fn optional_partial(name: &str, entries: &[Entry]) -> Result<Partial, ConfigError>
     ensures { result ≡ spec.optional meaning.partial_in Revert name.now entries.now }
 {
@@ -235,6 +239,7 @@ pub(crate) fn optional_partial(name: &str, entries: &[Entry]) -> Result<Partial,
     }
 }
 
+#[tactic(auto, unfolding(crate::specs::Keys::optional))]
 pub(crate) fn optional_metadata(
     alloc: Global,
     name: &str,

@@ -6,13 +6,12 @@ ghost use Rattle.std.specs.Option.{option_copied};
 ghost use Rattle.std.specs.Str.{bytes_eq};
 ghost use Rattle.config_model.specs.Meanings as spec;
 
-use config_ini::{Part, Setting};
 use crate::rules::{ConflictRule, MetaKey, Partial};
 use crate::storage_kind::StorageKind;
 use crate::wanted::Wanted;
-use values::Sequence;
+use config_ini::{Part, Setting};
 use std::alloc::{AllocError, Global};
-use values::Text;
+use values::{Sequence, Text};
 
 /// The longest name of a collection, in bytes.
 const MAX_COLLECTION: usize = 200;

@@ -154,7 +154,7 @@ fn parts_of(alloc: Global, sections: &[Section]) -> Result<Parts, ConfigError>
 
 /// The names of storages.
 fn names_of(alloc: Global, storages: &[StorageConf]) -> Result<BTreeSet<Text>, AllocError>
-    ensures { IfOk result (λ names. (q : List ℕ) → has names.keys q ≡ spec.is_storage storages.now q) }
+    ensures { IfOk result (λ names. has names.keys ≡ spec.is_storage storages.now) }
 {
     let mut names = BTreeSet::new(alloc);
     for storage in storages {
@@ -173,11 +173,7 @@ fn no_storage(alloc: Global, pair: &PairConf, name: &Text) -> Result<ConfigError
 }
 
 /// Finds a storage that the pair names and that isn't there.
-fn find_lacking(
-    alloc: Global,
-    names: &BTreeSet<Text>,
-    pair: &PairConf,
-) -> Result<(), ConfigError>
+fn find_lacking(alloc: Global, names: &BTreeSet<Text>, pair: &PairConf) -> Result<(), ConfigError>
     ensures { MatchResult result (λ _. spec.lacking (has names.now.keys) pair.now ≡ None) (λ e. e ≢ NoMemory → spec.lacking (has names.now.keys) pair.now ≡ Some e) }
 {
     if !names.contains(&pair.a) {
