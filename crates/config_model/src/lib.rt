@@ -14,6 +14,7 @@ mod wanted;
 
 pub use config::{Config, PairConf, Param, ParamValue, StorageConf};
 pub use config_ini::ConfigError;
+pub use meanings::has_control;
 pub use reading::read_config;
 pub use rules::{ConflictRule, MetaKey, Partial};
 pub use storage_kind::StorageKind;

@@ -85,7 +85,7 @@ fn begins_control(bytes: &[u8]) -> bool
 
 /// Whether a control character stands in a text.
 #[tactic(auto, unfolding(crate::specs::Meanings::has_control))]
-fn has_control(text: &str) -> bool
+pub fn has_control(text: &str) -> bool
     ensures { result ≡ spec.has_control text.now }
 {
     let mut left = text.as_bytes();
