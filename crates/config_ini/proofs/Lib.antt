@@ -2,7 +2,6 @@ pub mod Ascii
 pub mod Before
 pub mod Collected
 pub mod Cuts
-pub mod Founds
 pub mod Groups
 pub mod Held
 pub mod Refusals

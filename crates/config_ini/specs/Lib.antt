@@ -1,10 +1,8 @@
 pub mod Answers
-pub mod Fields
 pub mod Flaws
 pub mod Grouping
 pub mod Lines
 pub mod Logical
-pub mod Meanings
 pub mod Repeats
 pub mod Sections
 pub mod Seen

@@ -30,7 +30,7 @@ fn prefixed(alloc: Global, front: &str, name: &str) -> Result<Text, AllocError>
 }
 
 /// How a section is named.
-pub(crate) fn section_name(alloc: Global, title: &Title) -> Result<Text, AllocError>
+pub fn section_name(alloc: Global, title: &Title) -> Result<Text, AllocError>
     ensures { IfOk result (λ name. name ≡ spec.section_name title.now) }
 {
     match title.kind {

@@ -4,7 +4,7 @@ use values::{Bytes, Text};
 
 /// The kinds of sections.
 #[derive(Clone, Copy)]
-pub(crate) enum SectionKind {
+pub enum SectionKind {
     General,
     Pair,
     Storage,
@@ -12,14 +12,14 @@ pub(crate) enum SectionKind {
 
 /// The head of a section. `[general]` has an empty name.
 #[derive(Drop)]
-pub(crate) struct Title {
+pub struct Title {
     pub kind: SectionKind,
     pub name: Text,
 }
 
 /// A key in lower case, and whether it was written with `.fetch`, which is no part of the name.
 #[derive(Drop)]
-pub(crate) struct Key {
+pub struct Key {
     pub name: Text,
     pub is_fetched: bool,
 }

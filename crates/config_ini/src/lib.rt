@@ -1,20 +1,18 @@
-//! The configuration: its text, read into pairs and storages, and what a storage's parameters mean.
+//! The text of a configuration, read into sections with their keys and values.
 #![tactic(auto)]
 
 mod error;
-mod fields;
 mod flaws;
 mod key_lines;
 mod kinds;
 mod lines;
 mod logical;
-mod meanings;
 mod sections;
 mod setting;
-mod storage_kind;
 mod titles;
-mod wanted;
 
 pub use error::ConfigError;
-pub use storage_kind::StorageKind;
-pub use wanted::Wanted;
+pub use flaws::section_name;
+pub use kinds::{Key, SectionKind, Title};
+pub use sections::{Section, read_sections};
+pub use setting::{Entry, Part, Setting};

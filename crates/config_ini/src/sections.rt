@@ -13,28 +13,28 @@ use crate::flaws::find_flaw;
 use crate::kinds::{Logical, Title, Written};
 use crate::logical::logical_lines;
 use crate::setting::{Entry, entry_of};
-use sqlite_items::Items;
 use std::alloc::{AllocError, Global};
+use values::Sequence;
 
 /// The longest configuration, in bytes.
 const LIMIT: usize = 1_048_576;
 
 /// A section.
 #[derive(Drop)]
-pub(crate) struct Section {
+pub struct Section {
     pub title: Title,
-    pub entries: Items<Entry>,
+    pub entries: Sequence<Entry>,
 }
 
 /// The sections so far, and the one at hand.
 #[derive(Drop)]
 pub(crate) struct Grouped {
-    pub done: Items<Section>,
+    pub done: Sequence<Section>,
     pub at: Option<Section>,
 }
 
 impl Grouped {
-    fn closed(self) -> Result<Items<Section>, AllocError>
+    fn closed(self) -> Result<Sequence<Section>, AllocError>
         ensures { IfOk result (λ all. all ≡ self.done ++ spec.and_then self.at []) }
     {
         let Grouped { mut done, at } = self;
@@ -53,7 +53,7 @@ impl Grouped {
             (λ e. e ≢ NoMemory → (rest : List Logical) → left_of self (logical.Section number title ∷ rest) ≡ Err e) }
     {
         let done = self.closed()?;
-        let entries = Items::new(alloc);
+        let entries = Sequence::new(alloc);
         Ok(Grouped {
             done,
             at: Some(Section { title, entries }),
@@ -96,12 +96,12 @@ impl Grouped {
 }
 
 /// The sections of these lines, with each value read.
-fn sections_of(alloc: Global, lines: Vec<Logical>) -> Result<Items<Section>, ConfigError>
+fn sections_of(alloc: Global, lines: Vec<Logical>) -> Result<Sequence<Section>, ConfigError>
     ensures { Gives (spec.sections_of lines.items) result }
 {
     let mut rest = lines.into_iter();
     let mut grouped = Grouped {
-        done: Items::new(alloc),
+        done: Sequence::new(alloc),
         at: None,
     };
     'lines: while let Some(line) = rest.next() {
@@ -115,7 +115,7 @@ fn sections_of(alloc: Global, lines: Vec<Logical>) -> Result<Items<Section>, Con
 }
 
 /// The sections of a text within the limit.
-fn sections_in(alloc: Global, bytes: &[u8]) -> Result<Items<Section>, ConfigError>
+fn sections_in(alloc: Global, bytes: &[u8]) -> Result<Sequence<Section>, ConfigError>
     requires { length bytes.now < 2 ^ 32 - 1 }
     ensures { Gives (spec.sections_in bytes.now) result }
 {
@@ -127,7 +127,7 @@ fn sections_in(alloc: Global, bytes: &[u8]) -> Result<Items<Section>, ConfigErro
 }
 
 /// The sections of a configuration.
-pub(crate) fn read_sections(alloc: Global, bytes: &[u8]) -> Result<Items<Section>, ConfigError>
+pub fn read_sections(alloc: Global, bytes: &[u8]) -> Result<Sequence<Section>, ConfigError>
     ensures { Gives (spec.sections_read bytes.now) result }
 {
     if LIMIT < bytes.len() {

@@ -8,31 +8,30 @@ ghost use Rattle.config_ini.specs.Settings as spec;
 use crate::error::ConfigError;
 use crate::kinds::{Key, Written};
 use serde_json::Value;
-use sqlite_items::Items;
 use std::alloc::{AllocError, Global};
-use values::Text;
+use values::{Sequence, Text};
 
 /// A value.
 #[derive(Drop)]
-pub(crate) enum Setting {
+pub enum Setting {
     Null,
     Truth(bool),
     Text(Text),
-    List(Items<Part>),
+    List(Sequence<Part>),
     /// A number, an object, or a list with other parts than texts and lists of texts. No key has such a value.
     Other,
 }
 
 /// A part of a list.
 #[derive(Drop)]
-pub(crate) enum Part {
+pub enum Part {
     Text(Text),
-    Texts(Items<Text>),
+    Texts(Sequence<Text>),
 }
 
 /// A key with its value.
 #[derive(Drop)]
-pub(crate) struct Entry {
+pub struct Entry {
     pub number: u32,
     pub key: Key,
     pub value: Setting,
@@ -52,7 +51,7 @@ fn text_of(value: Value) -> Option<Text>
 }
 
 /// A list of texts.
-fn texts_of(alloc: Global, values: Vec<Value>) -> Result<Option<Items<Text>>, AllocError>
+fn texts_of(alloc: Global, values: Vec<Value>) -> Result<Option<Sequence<Text>>, AllocError>
     ensures { IfOk result (λ texts. texts ≡ spec.all_of spec.text_of (items_view values.items)) }
 {
     let mut rest = values.into_iter();
@@ -63,7 +62,7 @@ fn texts_of(alloc: Global, values: Vec<Value>) -> Result<Option<Items<Text>>, Al
             None => return Ok(None),
         }
     }
-    Ok(Some(Items::from_vec(texts)))
+    Ok(Some(Sequence::of(texts)))
 }
 
 fn inner_list(alloc: Global, values: Vec<Value>) -> Result<Option<Part>, AllocError>
@@ -88,7 +87,7 @@ fn part_of(alloc: Global, value: Value) -> Result<Option<Part>, AllocError>
     }
 }
 
-fn parts_of(alloc: Global, values: Vec<Value>) -> Result<Option<Items<Part>>, AllocError>
+fn parts_of(alloc: Global, values: Vec<Value>) -> Result<Option<Sequence<Part>>, AllocError>
     ensures { IfOk result (λ parts. parts ≡ spec.all_of spec.part_of (items_view values.items)) }
 {
     let mut rest = values.into_iter();
@@ -99,7 +98,7 @@ fn parts_of(alloc: Global, values: Vec<Value>) -> Result<Option<Items<Part>>, Al
             None => return Ok(None),
         }
     }
-    Ok(Some(Items::from_vec(parts)))
+    Ok(Some(Sequence::of(parts)))
 }
 
 fn list_of(alloc: Global, values: Vec<Value>) -> Result<Setting, AllocError>

@@ -18,6 +18,6 @@ returns-in-None c =
 
 pub returns : goal.returns
 returns c =
-    ap (λ (parts : List Part). Some parts) c.from_vec.ensures
+    ap (λ (parts : List Part). Some parts) c.of.ensures
     ∙ all_found spec.part_of c.parts.parts.items (into_iter_items c.parts.rest) (spec.all_of spec.part_of (items_view c.args.values.items))
     (empty_by (into_iter_items c.parts.rest) c.parts.rest.rest.len c.parts.rest.rest.ok.0 c.in_default.ensures.cases.0) c.parts.invariant

@@ -17,6 +17,6 @@ returns-in-None c =
 
 pub returns : goal.returns
 returns c =
-    ap (λ (texts : List (List ℕ)). Some texts) c.from_vec.ensures
+    ap (λ (texts : List (List ℕ)). Some texts) c.of.ensures
     ∙ all_found spec.text_of c.texts.texts.items (into_iter_items c.texts.rest) (spec.all_of spec.text_of (items_view c.args.values.items))
     (empty_by (into_iter_items c.texts.rest) c.texts.rest.rest.len c.texts.rest.rest.ok.0 c.in_default.ensures.cases.0) c.texts.invariant

@@ -1,0 +1,8 @@
+//! The digest of a pair and its storages, as they are written.
+#![tactic(auto)]
+
+mod digest;
+mod order;
+mod writing;
+
+pub use digest::digest_of;

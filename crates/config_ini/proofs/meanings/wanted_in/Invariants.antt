@@ -1,7 +1,0 @@
-use Rattle.std.proofs.Common.{◌≡◌, drop}
-use Rattle.config_ini.specs.Meanings.{all_found, wanted_of}
-use Rattle.config_ini.proofs.Collected.{onto}
-use Rattle.config_ini.proofs.meanings.wanted_in.Given as goal
-
-abbrev pub invariant-loop-part : goal.invariant-loop-part
-invariant-loop-part l = onto l.all (all_found wanted_of (drop l.part-index l.parts)) ≡ all_found wanted_of l.parts

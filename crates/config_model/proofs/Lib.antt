@@ -1,0 +1,5 @@
+pub mod Chains
+pub mod Founds
+pub mod Named
+pub mod Parts
+pub mod Rests
