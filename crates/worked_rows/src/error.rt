@@ -9,15 +9,19 @@ use thiserror::Error;
 #[derive(Debug, Drop, Error)]
 pub enum RowError {
     #[error("{0}")]
-    NotOfTheForm(String),
+    NotJson(String),
+    #[error("the key {0:?} isn't known")]
+    UnknownKey(String),
+    #[error("the key {0:?} is left out")]
+    NoKey(&'static str),
+    #[error("{key:?} is no {wanted}")]
+    WrongKind { key: String, wanted: &'static str },
     #[error("no text is named {0:?}")]
     NoText(String),
     #[error("the text {0:?} is given twice")]
     TextTwice(String),
     #[error("the text {0:?} has no such line")]
     NoLine(String),
-    #[error("{0:?} isn't hex")]
-    NotHex(String),
     #[error("no place is named {0:?}")]
     NoPlace(String),
     #[error("the place {0:?} is named twice")]

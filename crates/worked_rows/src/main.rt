@@ -3,9 +3,9 @@
 #![tactic(auto)]
 
 mod compare;
+mod entry;
 mod error;
-mod form;
-mod members;
+mod json;
 mod memory;
 mod places;
 mod plans;
@@ -17,9 +17,9 @@ mod sheets;
 mod texts;
 
 use compare::Difference;
-use form::Verdict;
+use rows::name_of;
 use running::{Outcome, Runner, World};
-use sheets::{Located, Sheet, read_sheets};
+use sheets::{Located, Sheet, Verdict, read_sheets};
 use std::alloc::{AllocError, Global};
 use std::process::ExitCode;
 use std::{env, io};
@@ -77,17 +77,17 @@ fn tell(
 /// Runs the rows of a file.
 fn run_sheet(runner: &Runner<'_>, sheet: &Sheet, tally: &mut Tally) -> Result<(), Located> {
     let alloc = runner.rt.alloc();
-    for row in &sheet.rows {
+    for form in sheet.rows() {
+        let (name, verdict) = (name_of(form), sheet.verdict);
         let number = tally.rows.saturating_add(tally.skipped);
-        let done = match runner.run(row, sheet.verdict, number) {
+        let done = match runner.run(form, verdict, number) {
             Ok(outcome) => {
-                let name = row.name.as_str();
-                tell(runner.rt, tally, name, sheet.verdict, &outcome).map_err(|error| error.into())
+                tell(runner.rt, tally, name, verdict, &outcome).map_err(|error| error.into())
             }
             Err(error) => Err(error),
         };
         if let Err(error) = done {
-            return Err(Located::in_row(alloc, sheet.file.as_str(), row.name.as_str(), error));
+            return Err(Located::in_row(alloc, sheet.file.as_str(), name, error));
         }
     }
     Ok(())

@@ -2,10 +2,11 @@
 
 use crate::compare::{Difference, differences};
 use crate::error::RowError;
-use crate::form::{RowForm, Verdict};
+use crate::json::Json;
 use crate::places::Places;
 use crate::ran::Ran;
 use crate::rows::{Ground, Row, Run, Wanted};
+use crate::sheets::Verdict;
 use crate::texts::Texts;
 use crate::{memory, real};
 
@@ -47,7 +48,7 @@ fn wants_memory(row: &Row, verdict: Verdict) -> bool {
 
 impl Runner<'_> {
     /// Runs a row, the one of this number.
-    pub fn run(&self, form: &RowForm, verdict: Verdict, number: u64) -> Result<Outcome, RowError> {
+    pub fn run(&self, form: &Json, verdict: Verdict, number: u64) -> Result<Outcome, RowError> {
         let alloc = self.rt.alloc();
         let root = match self.world {
             World::Memory => String::new(alloc),
