@@ -16,32 +16,18 @@ mod running;
 mod sheets;
 mod texts;
 
-use compare::Difference;
 use rows::name_of;
 use running::{Outcome, Runner, World};
 use sheets::{Located, Sheet, Verdict, read_sheets};
-use std::alloc::{AllocError, Global};
 use std::process::ExitCode;
 use std::{env, io};
 
 /// How many rows came out how.
-#[derive(Clone, Copy, Debug, Default)]
+#[derive(Clone, Copy)]
 struct Tally {
     rows: u64,
     failed: u64,
     skipped: u64,
-}
-
-/// All that differs, on one line.
-fn told(alloc: Global, differences: &[Difference]) -> Result<String, AllocError> {
-    let mut text = String::new(alloc);
-    for difference in differences {
-        if !text.is_empty() {
-            text.push_str("; ")?;
-        }
-        text.push_str(format!(in alloc; "{difference}")?.as_str())?;
-    }
-    Ok(text)
 }
 
 /// Prints how a row came out, and counts it.
@@ -59,12 +45,11 @@ fn tell(
         }
         Outcome::AsExpected => {
             println!(rt; "ok {name}")?;
-            verdict == Verdict::Ok
+            matches!(verdict, Verdict::Ok)
         }
         Outcome::Differs { run, differences } => {
-            let text = told(rt.alloc(), differences.as_slice())?;
-            println!(rt; "not ok {name}: run {run}: {text}")?;
-            verdict == Verdict::NotOk
+            println!(rt; "not ok {name}: run {run}: {differences}")?;
+            matches!(verdict, Verdict::NotOk)
         }
     };
     tally.rows = tally.rows.saturating_add(1);
@@ -101,7 +86,11 @@ fn run_all(rt: &HostRuntime, world: World<'_>) -> Result<Tally, Located> {
         world,
         texts: &texts,
     };
-    let mut tally = Tally::default();
+    let mut tally = Tally {
+        rows: 0,
+        failed: 0,
+        skipped: 0,
+    };
     for sheet in &sheets {
         run_sheet(&runner, sheet, &mut tally)?;
     }

@@ -8,7 +8,7 @@ use std::alloc::{AllocError, Global};
 use std::collections::{BTreeMap, BTreeSet};
 
 /// What a folder holds.
-#[derive(Debug, Drop)]
+#[derive(Drop)]
 pub struct Held {
     pub files: BTreeMap<String, Vec<u8>>,
     pub folders: BTreeSet<String>,

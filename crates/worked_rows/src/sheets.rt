@@ -12,7 +12,7 @@ use std::{fmt, fs, io};
 const SHARED: &str = "texts.json";
 
 /// How the rows of a file must come out.
-#[derive(Clone, Copy, Drop, PartialEq)]
+#[derive(Clone, Copy)]
 pub enum Verdict {
     Ok,
     NotOk,
@@ -37,7 +37,7 @@ impl Sheet {
 }
 
 /// An error, and where it stands.
-#[derive(Debug, Drop)]
+#[derive(Drop)]
 pub struct Located {
     file: String,
     row: Option<String>,
@@ -101,14 +101,8 @@ fn sheet_names(rt: &HostRuntime) -> io::Result<Vec<String>> {
 /// Reads a file of rows, and adds its texts to the others.
 fn read_sheet(rt: &HostRuntime, file: &str, texts: &mut Texts) -> Result<Sheet, RowError> {
     let alloc = rt.alloc();
-    let text = fs::read_to_string(rt, file)?;
-    let form = parsed(alloc, text.as_str())?;
-    let object = object_of(alloc, &form)?;
-    for (name, text) in object.members("texts")? {
-        texts.add(Entry::of(alloc, name.as_str(), text))?;
-    }
-    let verdict = verdict_of(object)?;
-    let _ = object.list("rows")?;
+    let form = read_form(rt, file)?;
+    let verdict = take(alloc, &form, texts)?;
     Ok(Sheet {
         file: String::from_str(alloc, file)?,
         verdict,
@@ -117,14 +111,22 @@ fn read_sheet(rt: &HostRuntime, file: &str, texts: &mut Texts) -> Result<Sheet, 
 }
 
 /// What a file says.
-fn parsed(alloc: Global, text: &str) -> Result<Json, RowError> {
-    match serde_json::from_str(alloc, text) {
+fn read_form(rt: &HostRuntime, file: &str) -> Result<Json, RowError> {
+    let text = fs::read_to_string(rt, file)?;
+    match serde_json::from_str(rt.alloc(), text.as_str()) {
         Ok(form) => Ok(form),
-        Err(error) => match format!(in alloc; "{error}") {
-            Ok(said) => Err(RowError::NotJson(said)),
-            Err(error) => Err(RowError::from(error)),
-        },
+        Err(error) => Err(RowError::NotJson(format!(in rt.alloc(); "{error}")?)),
     }
+}
+
+/// Takes the texts of a file, and says how its rows must come out.
+fn take(alloc: Global, form: &Json, texts: &mut Texts) -> Result<Verdict, RowError> {
+    let object = object_of(alloc, form)?;
+    for (name, text) in object.members("texts")? {
+        texts.add(Entry::of(alloc, name.as_str(), text))?;
+    }
+    let _ = object.list("rows")?;
+    verdict_of(object)
 }
 
 /// The object that a file is.
