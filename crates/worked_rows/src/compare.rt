@@ -5,114 +5,6 @@ use crate::ran::{Ran, Trail};
 use crate::rows::{Names, Wanted};
 use std::alloc::{AllocError, Global};
 use std::collections::BTreeMap;
-use std::fmt;
-
-/// What differs from what was expected.
-#[derive(Debug, Drop)]
-pub enum Difference {
-    Exit {
-        got: u8,
-        wanted: u8,
-    },
-    Printed {
-        stream: Stream,
-        got: String,
-        wanted: String,
-    },
-    IsThere {
-        path: String,
-    },
-    IsNotThere {
-        path: String,
-    },
-    File {
-        path: String,
-        name: String,
-        is: FileFault,
-    },
-    Subfolders {
-        path: String,
-    },
-    Happened {
-        path: String,
-        kind: Kind,
-        got: Vec<String>,
-        wanted: Vec<String>,
-    },
-}
-
-/// Where something is printed.
-#[derive(Clone, Copy, Debug, Drop)]
-pub enum Stream {
-    Out,
-    Err,
-}
-
-/// What is wrong with a file.
-#[derive(Clone, Copy, Debug, Drop)]
-pub enum FileFault {
-    Missing,
-    TooMany,
-    OtherBytes,
-}
-
-/// What happens to a file by the program.
-#[derive(Clone, Copy, Debug, Drop)]
-pub enum Kind {
-    Writes,
-    Reads,
-}
-
-impl fmt::Display for Stream {
-    fn fmt<W: fmt::Write>(&self, f: &mut fmt::Formatter<W>) -> fmt::Result {
-        match self {
-            Stream::Out => f.write_str("out"),
-            Stream::Err => f.write_str("err"),
-        }
-    }
-}
-
-impl fmt::Display for FileFault {
-    fn fmt<W: fmt::Write>(&self, f: &mut fmt::Formatter<W>) -> fmt::Result {
-        match self {
-            FileFault::Missing => f.write_str("is not there"),
-            FileFault::TooMany => f.write_str("is one too many"),
-            FileFault::OtherBytes => f.write_str("has other bytes"),
-        }
-    }
-}
-
-impl fmt::Display for Kind {
-    fn fmt<W: fmt::Write>(&self, f: &mut fmt::Formatter<W>) -> fmt::Result {
-        match self {
-            Kind::Writes => f.write_str("writes"),
-            Kind::Reads => f.write_str("reads"),
-        }
-    }
-}
-
-impl fmt::Display for Difference {
-    fn fmt<W: fmt::Write>(&self, f: &mut fmt::Formatter<W>) -> fmt::Result {
-        match self {
-            Difference::Exit { got, wanted } => write!(f, "exit {got}, not {wanted}"),
-            Difference::Printed {
-                stream,
-                got,
-                wanted,
-            } => write!(f, "{stream} {got:?}, not {wanted:?}"),
-            Difference::IsThere { path } => write!(f, "{path} is there"),
-            Difference::IsNotThere { path } => write!(f, "{path} is not there"),
-            Difference::File { path, name, is } => write!(f, "{path}: {name:?} {is}"),
-            Difference::Subfolders { path } => write!(f, "{path} has other subfolders"),
-            Difference::Happened {
-                path,
-                kind,
-                got,
-                wanted,
-            } => write!(f, "{path}: {kind} {got:?}, not {wanted:?}"),
-        }
-    }
-}
 
 /// Compares a run with what is expected of it.
 #[derive(Drop)]
@@ -121,50 +13,64 @@ struct Comparison<'a> {
     before: &'a Places,
     wanted: &'a Wanted,
     ran: &'a Ran,
-    found: Vec<Difference>,
+    /// All that differs, on one line.
+    found: String,
+}
+
+/// What happens to a file by the program.
+#[derive(Clone, Copy)]
+enum Kind {
+    Writes,
+    Reads,
 }
 
 impl Comparison<'_> {
-    fn printed(&mut self, stream: Stream, got: &[u8], wanted: &[u8]) -> Result<(), AllocError> {
+    fn add(&mut self, difference: &str) -> Result<(), AllocError> {
+        if !self.found.is_empty() {
+            self.found.push_str("; ")?;
+        }
+        self.found.push_str(difference)
+    }
+
+    fn exit(&mut self) -> Result<(), AllocError> {
+        let (got, wanted) = (self.ran.exit, self.wanted.exit);
         if got == wanted {
             return Ok(());
         }
-        self.found.push(Difference::Printed {
-            stream,
-            got: String::from_utf8_lossy(self.alloc, got)?,
-            wanted: String::from_utf8_lossy(self.alloc, wanted)?,
-        })?;
-        Ok(())
+        let difference = format!(in self.alloc; "exit {got}, not {wanted}")?;
+        self.add(difference.as_str())
     }
 
-    fn file(&mut self, path: &str, name: &str, is: FileFault) -> Result<(), AllocError> {
-        self.found.push(Difference::File {
-            path: String::from_str(self.alloc, path)?,
-            name: String::from_str(self.alloc, name)?,
-            is,
-        })?;
-        Ok(())
+    fn printed(&mut self, stream: &str, got: &[u8], wanted: &[u8]) -> Result<(), AllocError> {
+        if got == wanted {
+            return Ok(());
+        }
+        let got = String::from_utf8_lossy(self.alloc, got)?;
+        let wanted = String::from_utf8_lossy(self.alloc, wanted)?;
+        let difference = format!(in self.alloc; "{stream} {got:?}, not {wanted:?}")?;
+        self.add(difference.as_str())
+    }
+
+    fn file(&mut self, path: &str, name: &str, fault: &str) -> Result<(), AllocError> {
+        let difference = format!(in self.alloc; "{path}: {name:?} {fault}")?;
+        self.add(difference.as_str())
     }
 
     fn files(&mut self, path: &str, got: &Held, wanted: &Held) -> Result<(), AllocError> {
         for (name, bytes) in wanted.files.iter() {
             match got.files.get(name.as_str()) {
-                None => self.file(path, name.as_str(), FileFault::Missing)?,
+                None => self.file(path, name.as_str(), "is not there")?,
                 Some(found) => {
                     if found.as_slice() != bytes.as_slice() {
-                        self.file(path, name.as_str(), FileFault::OtherBytes)?;
+                        self.file(path, name.as_str(), "has other bytes")?;
                     }
                 }
             }
         }
         for name in got.files.keys() {
             if !wanted.files.contains_key(name.as_str()) {
-                self.file(path, name.as_str(), FileFault::TooMany)?;
+                self.file(path, name.as_str(), "is one too many")?;
             }
-        }
-        if !got.folders.iter().eq(wanted.folders.iter()) {
-            let path = String::from_str(self.alloc, path)?;
-            self.found.push(Difference::Subfolders { path })?;
         }
         Ok(())
     }
@@ -175,18 +81,20 @@ impl Comparison<'_> {
         got: Option<&Held>,
         wanted: Option<&Held>,
     ) -> Result<(), AllocError> {
-        match (got, wanted) {
-            (None, None) => Ok(()),
-            (Some(got), Some(wanted)) => self.files(path, got, wanted),
-            (Some(_), None) => {
-                let path = String::from_str(self.alloc, path)?;
-                Ok(self.found.push(Difference::IsThere { path })?)
+        let fault = match (got, wanted) {
+            (None, None) => return Ok(()),
+            (Some(got), Some(wanted)) => {
+                self.files(path, got, wanted)?;
+                if got.folders.iter().eq(wanted.folders.iter()) {
+                    return Ok(());
+                }
+                "has other subfolders"
             }
-            (None, Some(_)) => {
-                let path = String::from_str(self.alloc, path)?;
-                Ok(self.found.push(Difference::IsNotThere { path })?)
-            }
-        }
+            (Some(_), None) => "is there",
+            (None, Some(_)) => "is not there",
+        };
+        let difference = format!(in self.alloc; "{path} {fault}")?;
+        self.add(difference.as_str())
     }
 
     fn places(&mut self) -> Result<(), AllocError> {
@@ -208,20 +116,15 @@ impl Comparison<'_> {
     fn happened(
         &mut self,
         path: &str,
-        kind: Kind,
+        kind: &str,
         got: &[String],
         wanted: &[String],
     ) -> Result<(), AllocError> {
         if got == wanted {
             return Ok(());
         }
-        self.found.push(Difference::Happened {
-            path: String::from_str(self.alloc, path)?,
-            kind,
-            got: got.to_vec(self.alloc)?,
-            wanted: wanted.to_vec(self.alloc)?,
-        })?;
-        Ok(())
+        let difference = format!(in self.alloc; "{path}: {kind} {got:?}, not {wanted:?}")?;
+        self.add(difference.as_str())
     }
 
     fn names(
@@ -231,15 +134,15 @@ impl Comparison<'_> {
         wanted: &Names,
     ) -> Result<(), AllocError> {
         for (path, trail) in trails.iter() {
-            let got = match kind {
-                Kind::Writes => trail.writes.as_slice(),
-                Kind::Reads => trail.reads.as_slice(),
+            let (word, got) = match kind {
+                Kind::Writes => ("writes", trail.writes.as_slice()),
+                Kind::Reads => ("reads", trail.reads.as_slice()),
             };
             let names = match wanted.get(path.as_str()) {
                 Some(names) => names.as_slice(),
                 None => &[],
             };
-            self.happened(path.as_str(), kind, got, names)?;
+            self.happened(path.as_str(), word, got, names)?;
         }
         Ok(())
     }
@@ -248,7 +151,7 @@ impl Comparison<'_> {
         let wanted = self.wanted;
         for path in &wanted.keeps {
             if let Some(trail) = trails.get(path.as_str()) {
-                self.happened(path.as_str(), Kind::Writes, trail.writes.as_slice(), &[])?;
+                self.happened(path.as_str(), "writes", trail.writes.as_slice(), &[])?;
             }
         }
         Ok(())
@@ -264,34 +167,35 @@ impl Comparison<'_> {
         }
         self.kept(trails)
     }
+
+    fn all(&mut self) -> Result<(), AllocError> {
+        let (ran, wanted) = (self.ran, self.wanted);
+        self.exit()?;
+        self.printed("out", ran.out.as_slice(), wanted.out.as_slice())?;
+        self.printed("err", ran.err.as_slice(), wanted.err.as_slice())?;
+        self.places()?;
+        match &ran.trails {
+            Some(trails) => self.trails(trails),
+            None => Ok(()),
+        }
+    }
 }
 
-/// All that differs, in the order: exit status, what was printed, places, own writes and reads.
+/// All that differs, on one line, in the order: exit status, what was printed, places, own writes and reads.
 pub fn differences<'a>(
     alloc: Global,
     before: &'a Places,
     wanted: &'a Wanted,
     ran: &'a Ran,
-) -> Result<Vec<Difference>, AllocError> {
+) -> Result<String, AllocError> {
     let mut comparison = Comparison {
         alloc,
         before,
         wanted,
         ran,
-        found: Vec::new(alloc),
+        found: String::new(alloc),
     };
-    if ran.exit != wanted.exit {
-        comparison.found.push(Difference::Exit {
-            got: ran.exit,
-            wanted: wanted.exit,
-        })?;
-    }
-    comparison.printed(Stream::Out, ran.out.as_slice(), wanted.out.as_slice())?;
-    comparison.printed(Stream::Err, ran.err.as_slice(), wanted.err.as_slice())?;
-    comparison.places()?;
-    if let Some(trails) = &ran.trails {
-        comparison.trails(trails)?;
-    }
+    comparison.all()?;
     let Comparison { found, .. } = comparison;
     Ok(found)
 }

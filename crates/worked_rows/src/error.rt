@@ -2,32 +2,42 @@
 
 use outside::NoMemory;
 use std::alloc::{AllocError, AllocFailed};
-use std::io;
-use thiserror::Error;
+use std::{fmt, io};
 
 /// Why a file of rows, or a row, can't be run.
-#[derive(Debug, Drop, Error)]
+#[derive(Drop)]
 pub enum RowError {
-    #[error("{0}")]
-    NotOfTheForm(String),
-    #[error("no text is named {0:?}")]
+    NotJson(String),
+    UnknownKey(String),
+    NoKey(&'static str),
+    WrongKind { key: String, wanted: &'static str },
     NoText(String),
-    #[error("the text {0:?} is given twice")]
     TextTwice(String),
-    #[error("the text {0:?} has no such line")]
     NoLine(String),
-    #[error("{0:?} isn't hex")]
-    NotHex(String),
-    #[error("no place is named {0:?}")]
     NoPlace(String),
-    #[error("the place {0:?} is named twice")]
     PlaceTwice(String),
-    #[error("it has no run")]
     NoRun,
-    #[error("a run expects nothing")]
     ExpectsNothing,
-    #[error("{0}")]
     System(io::Error),
+}
+
+impl fmt::Display for RowError {
+    fn fmt<W: fmt::Write>(&self, f: &mut fmt::Formatter<W>) -> fmt::Result {
+        match self {
+            RowError::NotJson(said) => write!(f, "{said}"),
+            RowError::UnknownKey(key) => write!(f, "the key {key:?} isn't known"),
+            RowError::NoKey(key) => write!(f, "the key {key:?} is left out"),
+            RowError::WrongKind { key, wanted } => write!(f, "{key:?} is no {wanted}"),
+            RowError::NoText(name) => write!(f, "no text is named {name:?}"),
+            RowError::TextTwice(name) => write!(f, "the text {name:?} is given twice"),
+            RowError::NoLine(name) => write!(f, "the text {name:?} has no such line"),
+            RowError::NoPlace(path) => write!(f, "no place is named {path:?}"),
+            RowError::PlaceTwice(path) => write!(f, "the place {path:?} is named twice"),
+            RowError::NoRun => f.write_str("it has no run"),
+            RowError::ExpectsNothing => f.write_str("a run expects nothing"),
+            RowError::System(error) => write!(f, "{error}"),
+        }
+    }
 }
 
 impl From<io::Error> for RowError {

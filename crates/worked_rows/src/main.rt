@@ -3,9 +3,9 @@
 #![tactic(auto)]
 
 mod compare;
+mod entry;
 mod error;
-mod form;
-mod members;
+mod json;
 mod memory;
 mod places;
 mod plans;
@@ -16,32 +16,18 @@ mod running;
 mod sheets;
 mod texts;
 
-use compare::Difference;
-use form::Verdict;
+use rows::name_of;
 use running::{Outcome, Runner, World};
-use sheets::{Located, Sheet, read_sheets};
-use std::alloc::{AllocError, Global};
+use sheets::{Located, Sheet, Verdict, read_sheets};
 use std::process::ExitCode;
 use std::{env, io};
 
 /// How many rows came out how.
-#[derive(Clone, Copy, Debug, Default)]
+#[derive(Clone, Copy)]
 struct Tally {
     rows: u64,
     failed: u64,
     skipped: u64,
-}
-
-/// All that differs, on one line.
-fn told(alloc: Global, differences: &[Difference]) -> Result<String, AllocError> {
-    let mut text = String::new(alloc);
-    for difference in differences {
-        if !text.is_empty() {
-            text.push_str("; ")?;
-        }
-        text.push_str(format!(in alloc; "{difference}")?.as_str())?;
-    }
-    Ok(text)
 }
 
 /// Prints how a row came out, and counts it.
@@ -59,12 +45,11 @@ fn tell(
         }
         Outcome::AsExpected => {
             println!(rt; "ok {name}")?;
-            verdict == Verdict::Ok
+            matches!(verdict, Verdict::Ok)
         }
         Outcome::Differs { run, differences } => {
-            let text = told(rt.alloc(), differences.as_slice())?;
-            println!(rt; "not ok {name}: run {run}: {text}")?;
-            verdict == Verdict::NotOk
+            println!(rt; "not ok {name}: run {run}: {differences}")?;
+            matches!(verdict, Verdict::NotOk)
         }
     };
     tally.rows = tally.rows.saturating_add(1);
@@ -77,17 +62,17 @@ fn tell(
 /// Runs the rows of a file.
 fn run_sheet(runner: &Runner<'_>, sheet: &Sheet, tally: &mut Tally) -> Result<(), Located> {
     let alloc = runner.rt.alloc();
-    for row in &sheet.rows {
+    for form in sheet.rows() {
+        let (name, verdict) = (name_of(form), sheet.verdict);
         let number = tally.rows.saturating_add(tally.skipped);
-        let done = match runner.run(row, sheet.verdict, number) {
+        let done = match runner.run(form, verdict, number) {
             Ok(outcome) => {
-                let name = row.name.as_str();
-                tell(runner.rt, tally, name, sheet.verdict, &outcome).map_err(|error| error.into())
+                tell(runner.rt, tally, name, verdict, &outcome).map_err(|error| error.into())
             }
             Err(error) => Err(error),
         };
         if let Err(error) = done {
-            return Err(Located::in_row(alloc, sheet.file.as_str(), row.name.as_str(), error));
+            return Err(Located::in_row(alloc, sheet.file.as_str(), name, error));
         }
     }
     Ok(())
@@ -101,7 +86,11 @@ fn run_all(rt: &HostRuntime, world: World<'_>) -> Result<Tally, Located> {
         world,
         texts: &texts,
     };
-    let mut tally = Tally::default();
+    let mut tally = Tally {
+        rows: 0,
+        failed: 0,
+        skipped: 0,
+    };
     for sheet in &sheets {
         run_sheet(&runner, sheet, &mut tally)?;
     }

@@ -1,6 +1,6 @@
 //! Runs over folders in memory.
 
-ghost use Rattle.std.specs.Prelude.{◌≡◌, ◌≢◌, true, AllPairs, IfOk};
+ghost use Rattle.std.specs.Prelude.{◌≡◌, ◌≢◌, true, All, AllPairs, IfOk};
 ghost use Rattle.outside.specs.Places.{IsWhole};
 
 use crate::error::RowError;
@@ -67,14 +67,21 @@ fn trail_of(alloc: Global, folder: &MemFolder) -> Result<Trail, AllocError> {
     Ok(trail)
 }
 
+/// Whether no folder of these has this path.
+fn is_new(path: &Text, dirs: &[(Text, MemFolder)]) -> bool
+    ensures { result ≡ true → All (λ d. path.now ≢ d.0) dirs.now }
+{
+    dirs.iter().all(|dir| dir.0 != *path)
+}
+
 /// Whether each folder has a path of its own.
 fn are_apart(dirs: &[(Text, MemFolder)]) -> bool
     ensures { result ≡ true → AllPairs (λ d e. d.0 ≢ e.0) dirs.now }
 {
-    let [first, rest @ ..] = dirs else {
-        return true;
-    };
-    rest.iter().all(|dir| dir.0 != first.0) && are_apart(rest)
+    match dirs.split_first() {
+        None => true,
+        Some((first, rest)) => is_new(&first.0, rest) && are_apart(rest),
+    }
 }
 
 fn outfit_of(alloc: Global, dirs: Vec<(Text, MemFolder)>) -> Result<MemOutfit, RowError>

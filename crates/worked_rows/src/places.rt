@@ -1,13 +1,14 @@
 //! What the folders of a row hold.
 
+use crate::entry::Entry;
 use crate::error::RowError;
-use crate::form::{EntryForm, FolderForm};
+use crate::json::Json;
 use crate::texts::Texts;
 use std::alloc::{AllocError, Global};
 use std::collections::{BTreeMap, BTreeSet};
 
 /// What a folder holds.
-#[derive(Debug, Drop)]
+#[derive(Drop)]
 pub struct Held {
     pub files: BTreeMap<String, Vec<u8>>,
     pub folders: BTreeSet<String>,
@@ -25,24 +26,26 @@ impl Held {
     }
 }
 
-/// What a folder of a row holds.
+/// What a folder of a row holds: `null` is one that isn't there.
 pub fn held_of(
     alloc: Global,
-    form: &FolderForm,
+    form: Entry<'_>,
     texts: &Texts,
     root: &str,
 ) -> Result<Option<Held>, RowError> {
-    let Some(members) = form else {
+    if let Json::Null = form.value {
         return Ok(None);
-    };
+    }
     let mut held = Held::nothing(alloc);
-    for (name, entry) in &members.list {
-        match entry {
-            EntryForm::Text(text) => {
+    for (name, value) in form.members()? {
+        let entry = Entry::of(alloc, name.as_str(), value);
+        match value {
+            Json::Text(text) => {
                 let bytes = texts.bytes(text.as_str(), root)?;
                 held.files.insert(name.clone()?, bytes)?;
             }
-            EntryForm::Folder(_) => {
+            _ => {
+                let _ = entry.object(&[])?;
                 held.folders.insert(name.clone()?)?;
             }
         }

@@ -1,7 +1,7 @@
 //! The plans of faults and edits of a run.
 
+use crate::entry::{Entry, Object};
 use crate::error::RowError;
-use crate::form::{CallEditForm, PlanForm};
 use crate::rows::Ground;
 use outside::{FaultPlace, FaultPlan, OutsideEdit};
 use std::alloc::Global;
@@ -16,29 +16,41 @@ pub fn no_plan(alloc: Global) -> FaultPlan {
     }
 }
 
-fn edit_of(form: &CallEditForm, ground: Ground<'_>) -> Result<OutsideEdit, RowError> {
-    let new = match &form.text {
+fn fault_of(form: Object<'_>) -> Result<FaultPlace, RowError> {
+    Ok(FaultPlace {
+        call: form.must("call")?.number()?,
+        acted: form.must("acted")?.flag()?,
+    })
+}
+
+fn edit_of(form: Object<'_>, ground: Ground<'_>) -> Result<OutsideEdit, RowError> {
+    let name = form.must("name")?.text()?;
+    let new = match form.get("text") {
         None => None,
-        Some(text) => Some(Bytes::of(ground.texts.bytes(text.as_str(), ground.root)?)),
+        Some(text) => ground.new_text(text)?,
     };
     Ok(OutsideEdit {
-        before_call: form.before_call,
-        name: Text::of(form.name.clone()?),
-        new,
+        before_call: form.must("before_call")?.number()?,
+        name: Text::of(String::from_str(ground.alloc, name)?),
+        new: new.map(Bytes::of),
     })
 }
 
 /// The plan that a row gives for a place.
-pub fn plan_of(form: &PlanForm, ground: Ground<'_>) -> Result<FaultPlan, RowError> {
+pub fn plan_of(form: Entry<'_>, ground: Ground<'_>) -> Result<FaultPlan, RowError> {
+    let form = form.object(&["faults", "stop_at", "edits"])?;
     let mut plan = no_plan(ground.alloc);
-    plan.stop_at = form.stop_at;
-    for fault in form.faults.iter().flatten() {
-        plan.places.push(FaultPlace {
-            call: fault.call,
-            acted: fault.acted,
-        })?;
+    if let Some(call) = form.get("stop_at") {
+        plan.stop_at = Some(call.number()?);
     }
-    for edit in form.edits.iter().flatten() {
+    for value in form.list("faults")? {
+        let fault = Entry::of(ground.alloc, "faults", value);
+        plan.places
+            .push(fault_of(fault.object(&["call", "acted"])?)?)?;
+    }
+    for value in form.list("edits")? {
+        let edit = Entry::of(ground.alloc, "edits", value);
+        let edit = edit.object(&["before_call", "name", "text"])?;
         plan.edits.push(edit_of(edit, ground)?)?;
     }
     Ok(plan)

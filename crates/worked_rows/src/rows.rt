@@ -1,9 +1,9 @@
 //! Rows, with their texts and paths in place.
 
+use crate::entry::{Entry, Object};
 use crate::error::RowError;
-use crate::form::{EditForm, PrintedForm, RowForm, RunForm};
-use crate::members::Members;
-use crate::places::{Places, below, held_of, usual_places};
+use crate::json::Json;
+use crate::places::{Held, Places, below, held_of, usual_places};
 use crate::plans::plan_of;
 use crate::texts::{Texts, rooted};
 use outside::FaultPlan;
@@ -84,53 +84,67 @@ impl Ground<'_> {
         }
     }
 
+    /// What a member of an object says.
+    fn entry(self, member: &(String, Json)) -> Entry<'_> {
+        Entry::of(self.alloc, member.0.as_str(), &member.1)
+    }
+
+    fn held(self, form: Entry<'_>) -> Result<Option<Held>, RowError> {
+        held_of(self.alloc, form, self.texts, self.root)
+    }
+
+    /// The text that a file gets from outside: none where it goes.
+    pub fn new_text(self, form: Entry<'_>) -> Result<Option<Vec<u8>>, RowError> {
+        match form.value {
+            Json::Null => Ok(None),
+            _ => Ok(Some(self.texts.bytes(form.text()?, self.root)?)),
+        }
+    }
+
     /// What a row says of its places, in place of the usual.
-    fn places(self, form: &RowForm) -> Result<Places, RowError> {
+    fn places(self, row: Object<'_>) -> Result<Places, RowError> {
         let mut places = usual_places(self.alloc, self.texts, self.root)?;
-        for (path, folder) in members(&form.places) {
-            let held = held_of(self.alloc, folder, self.texts, self.root)?;
-            places.insert(self.path(path.as_str())?, held)?;
+        for member in row.members("places")? {
+            let held = self.held(self.entry(member))?;
+            places.insert(self.path(member.0.as_str())?, held)?;
         }
         Ok(places)
     }
 
-    fn edits_of_folder(self, path: &str, form: &EditForm) -> Result<Vec<Edit>, RowError> {
+    fn edits_of_folder(self, form: Entry<'_>) -> Result<Vec<Edit>, RowError> {
         let mut edits = Vec::new(self.alloc);
-        let Some(files) = form else {
-            edits.push(Edit::Gone(self.path(path)?))?;
+        if let Json::Null = form.value {
+            edits.push(Edit::Gone(self.path(form.key)?))?;
             return Ok(edits);
-        };
-        edits.push(Edit::There(self.path(path)?))?;
-        for (name, text) in &files.list {
-            let new = match text {
-                None => None,
-                Some(text) => Some(self.texts.bytes(text.as_str(), self.root)?),
-            };
+        }
+        edits.push(Edit::There(self.path(form.key)?))?;
+        for member in form.members()? {
             edits.push(Edit::File {
-                path: self.path(path)?,
-                name: name.clone()?,
-                new,
+                path: self.path(form.key)?,
+                name: member.0.clone()?,
+                new: self.new_text(self.entry(member))?,
             })?;
         }
         Ok(edits)
     }
 
-    fn edits(self, form: &RunForm, places: &Places) -> Result<Vec<Edit>, RowError> {
+    fn edits(self, run: Object<'_>, places: &Places) -> Result<Vec<Edit>, RowError> {
         let mut edits = Vec::new(self.alloc);
-        for (path, folder) in members(&form.edits) {
-            let _ = self.known(path.as_str(), places)?;
-            for edit in self.edits_of_folder(path.as_str(), folder)? {
+        for member in run.members("edits")? {
+            let folder = self.entry(member);
+            let _ = self.known(folder.key, places)?;
+            for edit in self.edits_of_folder(folder)? {
                 edits.push(edit)?;
             }
         }
         Ok(edits)
     }
 
-    fn words(self, form: &RunForm) -> Result<Vec<Text>, RowError> {
+    fn words(self, run: Object<'_>) -> Result<Vec<Text>, RowError> {
         let mut words = Vec::new(self.alloc);
-        match &form.words {
+        match run.get("words") {
             Some(given) => {
-                for word in given {
+                for word in &given.texts()? {
                     words.push(Text::of(rooted(self.alloc, word.as_str(), self.root)?))?;
                 }
             }
@@ -143,118 +157,150 @@ impl Ground<'_> {
         Ok(words)
     }
 
-    fn printed(self, form: &Option<PrintedForm>) -> Result<Vec<u8>, RowError> {
-        match form {
-            None => Ok(Vec::new(self.alloc)),
-            Some(PrintedForm::Text(name)) => self.texts.bytes(name.as_str(), self.root),
-            Some(PrintedForm::Lines(lines)) => {
-                let mut text = String::new(self.alloc);
-                for line in lines {
-                    text.push_str(rooted(self.alloc, line.as_str(), self.root)?.as_str())?;
-                    text.push_str("\n")?;
-                }
-                Ok(text.into_bytes())
-            }
+    /// What is printed: a named text, or lines, each ended by LF.
+    fn printed(self, form: Option<Entry<'_>>) -> Result<Vec<u8>, RowError> {
+        let Some(form) = form else {
+            return Ok(Vec::new(self.alloc));
+        };
+        if let Json::Text(name) = form.value {
+            return self.texts.bytes(name.as_str(), self.root);
         }
+        let mut text = String::new(self.alloc);
+        for line in &form.texts()? {
+            text.push_str(rooted(self.alloc, line.as_str(), self.root)?.as_str())?;
+            text.push_str("\n")?;
+        }
+        Ok(text.into_bytes())
     }
 
     fn plans(
         self,
-        form: &RunForm,
+        run: Object<'_>,
         places: &Places,
     ) -> Result<BTreeMap<String, FaultPlan>, RowError> {
         let mut plans = BTreeMap::new(self.alloc);
-        for (path, plan) in members(&form.plans) {
-            let path = self.known(path.as_str(), places)?;
-            plans.insert(path, plan_of(plan, self)?)?;
+        for member in run.members("plans")? {
+            let path = self.known(member.0.as_str(), places)?;
+            plans.insert(path, plan_of(self.entry(member), self)?)?;
         }
         Ok(plans)
     }
 
-    fn names(
-        self,
-        form: &Option<Members<Vec<String>>>,
-        places: &Places,
-    ) -> Result<Option<Names>, RowError> {
-        let Some(given) = form else {
+    fn names(self, form: Option<Entry<'_>>, places: &Places) -> Result<Option<Names>, RowError> {
+        let Some(form) = form else {
             return Ok(None);
         };
         let mut names = BTreeMap::new(self.alloc);
-        for (path, list) in &given.list {
-            let path = self.known(path.as_str(), places)?;
-            names.insert(path, list.clone()?)?;
+        for member in form.members()? {
+            let path = self.known(member.0.as_str(), places)?;
+            names.insert(path, self.entry(member).texts()?)?;
         }
         Ok(Some(names))
     }
 
-    fn wanted(self, form: &RunForm, places: &Places) -> Result<Wanted, RowError> {
-        if expects_nothing(form) {
-            return Err(RowError::ExpectsNothing);
-        }
+    fn then(self, run: Object<'_>, places: &Places) -> Result<Places, RowError> {
         let mut then = BTreeMap::new(self.alloc);
-        for (path, folder) in members(&form.then) {
-            let path = self.known(path.as_str(), places)?;
-            then.insert(path, held_of(self.alloc, folder, self.texts, self.root)?)?;
+        for member in run.members("then")? {
+            let path = self.known(member.0.as_str(), places)?;
+            then.insert(path, self.held(self.entry(member))?)?;
         }
+        Ok(then)
+    }
+
+    /// The places that a run must keep. None of them may be in `then`.
+    fn keeps(
+        self,
+        run: Object<'_>,
+        places: &Places,
+        then: &Places,
+    ) -> Result<Vec<String>, RowError> {
         let mut keeps = Vec::new(self.alloc);
-        for path in form.keeps.iter().flatten() {
+        let Some(form) = run.get("keeps") else {
+            return Ok(keeps);
+        };
+        for path in form.texts()? {
             let known = self.known(path.as_str(), places)?;
             if then.contains_key(known.as_str()) {
-                return Err(RowError::PlaceTwice(path.clone()?));
+                return Err(RowError::PlaceTwice(path));
             }
             keeps.push(known)?;
         }
+        Ok(keeps)
+    }
+
+    fn wanted(self, run: Object<'_>, places: &Places) -> Result<Wanted, RowError> {
+        if expects_nothing(run) {
+            return Err(RowError::ExpectsNothing);
+        }
+        let then = self.then(run, places)?;
+        let keeps = self.keeps(run, places, &then)?;
         Ok(Wanted {
-            exit: form.exit.unwrap_or(0),
-            out: self.printed(&form.out)?,
-            err: self.printed(&form.err)?,
+            exit: exit_of(run)?,
+            out: self.printed(run.get("out"))?,
+            err: self.printed(run.get("err"))?,
             then,
             keeps,
-            writes: self.names(&form.writes, places)?,
-            reads: self.names(&form.reads, places)?,
+            writes: self.names(run.get("writes"), places)?,
+            reads: self.names(run.get("reads"), places)?,
         })
     }
 
-    fn run(self, form: &RunForm, places: &Places) -> Result<Run, RowError> {
+    fn run(self, form: Entry<'_>, places: &Places) -> Result<Run, RowError> {
+        let run = form.object(&[
+            "edits", "words", "plans", "room", "exit", "out", "err", "then", "keeps", "writes",
+            "reads",
+        ])?;
+        let room = match run.get("room") {
+            Some(room) => Some(room.number()?),
+            None => None,
+        };
         Ok(Run {
-            edits: self.edits(form, places)?,
-            words: self.words(form)?,
-            plans: self.plans(form, places)?,
-            room: form.room,
-            wanted: self.wanted(form, places)?,
+            edits: self.edits(run, places)?,
+            words: self.words(run)?,
+            plans: self.plans(run, places)?,
+            room,
+            wanted: self.wanted(run, places)?,
         })
     }
 
     /// A row with its texts and paths in place.
-    pub fn row(self, form: &RowForm) -> Result<Row, RowError> {
-        if form.runs.is_empty() {
-            return Err(RowError::NoRun);
-        }
-        let places = self.places(form)?;
+    pub fn row(self, form: &Json) -> Result<Row, RowError> {
+        let row = Entry::of(self.alloc, "rows", form).object(&["name", "places", "runs"])?;
+        let _ = row.must("name")?.text()?;
+        let places = self.places(row)?;
         let mut runs = Vec::new(self.alloc);
-        for run in &form.runs {
+        for value in row.list("runs")? {
+            let run = Entry::of(self.alloc, "runs", value);
             runs.push(self.run(run, &places)?)?;
+        }
+        if runs.is_empty() {
+            return Err(RowError::NoRun);
         }
         Ok(Row { places, runs })
     }
 }
 
-/// The members of an object that may be left out.
-fn members<T>(form: &Option<Members<T>>) -> &[(String, T)] {
-    match form {
-        Some(given) => given.list.as_slice(),
-        None => &[],
+/// The name of a row, or nothing where it has none.
+pub fn name_of(form: &Json) -> &str {
+    match form.get("name") {
+        Some(Json::Text(name)) => name.as_str(),
+        _ => "",
     }
 }
 
-fn expects_nothing(form: &RunForm) -> bool {
-    form.exit.is_none()
-        && form.out.is_none()
-        && form.err.is_none()
-        && form.then.is_none()
-        && form.keeps.is_none()
-        && form.writes.is_none()
-        && form.reads.is_none()
+fn exit_of(run: Object<'_>) -> Result<u8, RowError> {
+    let Some(exit) = run.get("exit") else {
+        return Ok(0);
+    };
+    match u8::try_from(exit.number()?) {
+        Ok(status) => Ok(status),
+        Err(_) => Err(exit.is_no("exit status")),
+    }
+}
+
+fn expects_nothing(run: Object<'_>) -> bool {
+    let keys = ["exit", "out", "err", "then", "keeps", "writes", "reads"];
+    !keys.iter().any(|key| run.has(*key))
 }
 
 impl Run {

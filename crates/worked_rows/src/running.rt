@@ -1,11 +1,12 @@
 //! Runs rows, in memory or on real folders.
 
-use crate::compare::{Difference, differences};
+use crate::compare::differences;
 use crate::error::RowError;
-use crate::form::{RowForm, Verdict};
+use crate::json::Json;
 use crate::places::Places;
 use crate::ran::Ran;
 use crate::rows::{Ground, Row, Run, Wanted};
+use crate::sheets::Verdict;
 use crate::texts::Texts;
 use crate::{memory, real};
 
@@ -23,10 +24,7 @@ pub enum World<'a> {
 pub enum Outcome {
     AsExpected,
     /// What differs at the first run, counted from 1, at which something does.
-    Differs {
-        run: usize,
-        differences: Vec<Difference>,
-    },
+    Differs { run: usize, differences: String },
     /// Only devices in memory could show what the row expects.
     Skipped,
 }
@@ -42,12 +40,12 @@ pub struct Runner<'a> {
 /// Whether only devices in memory can run a row, or show that it comes out as it must.
 fn wants_memory(row: &Row, verdict: Verdict) -> bool {
     row.runs.iter().any(|run| run.wants_memory()
-        || (verdict == Verdict::NotOk && run.wanted.is_of_trails()))
+        || (matches!(verdict, Verdict::NotOk) && run.wanted.is_of_trails()))
 }
 
 impl Runner<'_> {
     /// Runs a row, the one of this number.
-    pub fn run(&self, form: &RowForm, verdict: Verdict, number: u64) -> Result<Outcome, RowError> {
+    pub fn run(&self, form: &Json, verdict: Verdict, number: u64) -> Result<Outcome, RowError> {
         let alloc = self.rt.alloc();
         let root = match self.world {
             World::Memory => String::new(alloc),
@@ -74,21 +72,27 @@ impl Runner<'_> {
 
     /// Runs all runs of a row, up to the first at which something differs.
     fn run_all(&self, row: Row) -> Result<Outcome, RowError> {
-        let alloc = self.rt.alloc();
         let Row { mut places, runs } = row;
         for (index, run) in runs.into_iter().enumerate() {
-            memory::edit(alloc, &mut places, run.edits.as_slice())?;
-            let (ran, wanted) = self.run_once(&places, run)?;
-            let differences = differences(alloc, &places, &wanted, &ran)?;
+            let differences = self.run_next(&mut places, run)?;
             if !differences.is_empty() {
                 return Ok(Outcome::Differs {
                     run: index.saturating_add(1),
                     differences,
                 });
             }
-            places = ran.places;
         }
         Ok(Outcome::AsExpected)
+    }
+
+    /// Runs a run over what the one before left, and says what differs.
+    fn run_next(&self, places: &mut Places, run: Run) -> Result<String, RowError> {
+        let alloc = self.rt.alloc();
+        memory::edit(alloc, places, run.edits.as_slice())?;
+        let (ran, wanted) = self.run_once(places, run)?;
+        let differences = differences(alloc, places, &wanted, &ran)?;
+        *places = ran.places;
+        Ok(differences)
     }
 
     fn run_once(&self, places: &Places, run: Run) -> Result<(Ran, Wanted), RowError> {

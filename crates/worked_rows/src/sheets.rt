@@ -1,8 +1,9 @@
 //! Files of rows: read, and checked as a whole before a row is run.
 
+use crate::entry::{Entry, Object};
 use crate::error::RowError;
-use crate::form::{RowForm, SheetForm, Verdict};
-use crate::rows::Ground;
+use crate::json::Json;
+use crate::rows::{Ground, name_of};
 use crate::texts::Texts;
 use std::alloc::{AllocError, Global};
 use std::{fmt, fs, io};
@@ -10,16 +11,33 @@ use std::{fmt, fs, io};
 /// The file of the texts that all files share. It is read first.
 const SHARED: &str = "texts.json";
 
+/// How the rows of a file must come out.
+#[derive(Clone, Copy)]
+pub enum Verdict {
+    Ok,
+    NotOk,
+}
+
 /// A file of rows.
 #[derive(Drop)]
 pub struct Sheet {
     pub file: String,
     pub verdict: Verdict,
-    pub rows: Vec<RowForm>,
+    form: Json,
+}
+
+impl Sheet {
+    /// The rows of the file.
+    pub fn rows(&self) -> &[Json] {
+        match self.form.get("rows") {
+            Some(Json::List(rows)) => rows.as_slice(),
+            _ => &[],
+        }
+    }
 }
 
 /// An error, and where it stands.
-#[derive(Debug, Drop)]
+#[derive(Drop)]
 pub struct Located {
     file: String,
     row: Option<String>,
@@ -83,36 +101,48 @@ fn sheet_names(rt: &HostRuntime) -> io::Result<Vec<String>> {
 /// Reads a file of rows, and adds its texts to the others.
 fn read_sheet(rt: &HostRuntime, file: &str, texts: &mut Texts) -> Result<Sheet, RowError> {
     let alloc = rt.alloc();
-    let text = fs::read_to_string(rt, file)?;
-    let form = parsed(alloc, text.as_str())?;
-    add_texts(texts, &form)?;
+    let form = read_form(rt, file)?;
+    let verdict = take(alloc, &form, texts)?;
     Ok(Sheet {
         file: String::from_str(alloc, file)?,
-        verdict: form.comes_out.unwrap_or(Verdict::Ok),
-        rows: form.rows.unwrap_or(Vec::new(alloc)),
+        verdict,
+        form,
     })
 }
 
 /// What a file says.
-fn parsed(alloc: Global, text: &str) -> Result<SheetForm, RowError> {
-    match serde_json::from_str(alloc, text) {
+fn read_form(rt: &HostRuntime, file: &str) -> Result<Json, RowError> {
+    let text = fs::read_to_string(rt, file)?;
+    match serde_json::from_str(rt.alloc(), text.as_str()) {
         Ok(form) => Ok(form),
-        Err(error) => match format!(in alloc; "{error}") {
-            Ok(said) => Err(RowError::NotOfTheForm(said)),
-            Err(error) => Err(RowError::from(error)),
-        },
+        Err(error) => Err(RowError::NotJson(format!(in rt.alloc(); "{error}")?)),
     }
 }
 
-/// Adds the texts of a file to the others.
-fn add_texts(texts: &mut Texts, form: &SheetForm) -> Result<(), RowError> {
-    let Some(given) = &form.texts else {
-        return Ok(());
-    };
-    for (name, text) in &given.list {
-        texts.add(name.as_str(), text)?;
+/// Takes the texts of a file, and says how its rows must come out.
+fn take(alloc: Global, form: &Json, texts: &mut Texts) -> Result<Verdict, RowError> {
+    let object = object_of(alloc, form)?;
+    for (name, text) in object.members("texts")? {
+        texts.add(Entry::of(alloc, name.as_str(), text))?;
     }
-    Ok(())
+    let _ = object.list("rows")?;
+    verdict_of(object)
+}
+
+/// The object that a file is.
+fn object_of(alloc: Global, form: &Json) -> Result<Object<'_>, RowError> {
+    Entry::of(alloc, "a file", form).object(&["texts", "comes_out", "rows"])
+}
+
+fn verdict_of(form: Object<'_>) -> Result<Verdict, RowError> {
+    let Some(entry) = form.get("comes_out") else {
+        return Ok(Verdict::Ok);
+    };
+    match entry.text()? {
+        "ok" => Ok(Verdict::Ok),
+        "not ok" => Ok(Verdict::NotOk),
+        _ => Err(entry.is_no("verdict")),
+    }
 }
 
 /// Looks at each row of a file, so that none is run where one isn't of the form.
@@ -122,9 +152,9 @@ fn check(alloc: Global, sheet: &Sheet, texts: &Texts) -> Result<(), Located> {
         texts,
         root: "",
     };
-    for row in &sheet.rows {
-        if let Err(error) = ground.row(row) {
-            return Err(Located::in_row(alloc, sheet.file.as_str(), row.name.as_str(), error));
+    for form in sheet.rows() {
+        if let Err(error) = ground.row(form) {
+            return Err(Located::in_row(alloc, sheet.file.as_str(), name_of(form), error));
         }
     }
     Ok(())

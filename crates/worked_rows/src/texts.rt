@@ -1,7 +1,8 @@
 //! The texts that rows name.
 
+use crate::entry::{Entry, Object};
 use crate::error::RowError;
-use crate::form::{ChangedForm, TextForm};
+use crate::json::Json;
 use std::alloc::{AllocError, Global};
 use std::collections::BTreeMap;
 
@@ -13,6 +14,13 @@ const ROOT: &str = "<root>";
 pub struct Texts {
     alloc: Global,
     named: BTreeMap<String, Vec<u8>>,
+}
+
+/// A line, counted from 1, and what it becomes.
+#[derive(Drop)]
+struct Change {
+    line: u64,
+    becomes: Vec<String>,
 }
 
 /// Lines, each with this end.
@@ -35,23 +43,23 @@ fn end_of(line: &[u8]) -> &'static str {
 }
 
 /// A text with one of its lines, or the one behind its last, become others.
-fn changed(alloc: Global, text: &[u8], form: &ChangedForm) -> Result<Option<Vec<u8>>, AllocError> {
+fn changed(alloc: Global, text: &[u8], change: &Change) -> Result<Option<Vec<u8>>, AllocError> {
     let mut made = Vec::new(alloc);
     let mut number = 0u64;
     let mut found = false;
     for line in text.split_inclusive(|byte| *byte == b'\n') {
         number = number.saturating_add(1);
-        if number == form.line {
+        if number == change.line {
             found = true;
-            let lines = ended(alloc, form.becomes.as_slice(), end_of(line))?;
+            let lines = ended(alloc, change.becomes.as_slice(), end_of(line))?;
             made.extend_from_slice(lines.as_slice())?;
         } else {
             made.extend_from_slice(line)?;
         }
     }
-    if number.saturating_add(1) == form.line {
+    if number.saturating_add(1) == change.line {
         found = true;
-        let lines = ended(alloc, form.becomes.as_slice(), "\n")?;
+        let lines = ended(alloc, change.becomes.as_slice(), "\n")?;
         made.extend_from_slice(lines.as_slice())?;
     }
     Ok(if found { Some(made) } else { None })
@@ -80,8 +88,8 @@ impl Texts {
     }
 
     /// Adds a text. It may be made of one that was added before.
-    pub fn add(&mut self, name: &str, form: &TextForm) -> Result<(), RowError> {
-        let name = String::from_str(self.alloc, name)?;
+    pub fn add(&mut self, form: Entry<'_>) -> Result<(), RowError> {
+        let name = String::from_str(self.alloc, form.key)?;
         if self.named.contains_key(name.as_str()) {
             return Err(RowError::TextTwice(name));
         }
@@ -90,37 +98,67 @@ impl Texts {
         Ok(())
     }
 
-    fn made(&self, form: &TextForm) -> Result<Vec<u8>, RowError> {
+    fn made(&self, form: Entry<'_>) -> Result<Vec<u8>, RowError> {
         let alloc = self.alloc;
-        match form {
-            TextForm::Plain(text) => Ok(Vec::from_slice(alloc, text.as_str().as_bytes())?),
-            TextForm::Lines(lines) => Ok(ended(alloc, lines.as_slice(), "\r\n")?),
-            TextForm::Feeds(feeds) => Ok(ended(alloc, feeds.lf.as_slice(), "\n")?),
-            TextForm::Changed(change) => {
-                let text = self.get(change.of.as_str())?;
-                match changed(alloc, text, change)? {
-                    Some(made) => Ok(made),
-                    None => Err(RowError::NoLine(change.of.clone()?)),
-                }
-            }
-            TextForm::Repeated(form) => {
-                let text = form.text.as_str().repeat(alloc, form.times as usize)?;
-                Ok(text.into_bytes())
-            }
-            TextForm::Joined(form) => self.joined(form.texts.as_slice()),
-            TextForm::Hex(form) => match hex::decode(alloc, form.hex.as_str()) {
-                Ok(bytes) => Ok(bytes),
-                Err(_) => Err(RowError::NotHex(form.hex.clone()?)),
-            },
+        match form.value {
+            Json::Text(text) => Ok(Vec::from_slice(alloc, text.as_str().as_bytes())?),
+            Json::List(_) => Ok(ended(alloc, form.texts()?.as_slice(), "\r\n")?),
+            _ => self.composed(form),
         }
     }
 
-    fn joined(&self, names: &[String]) -> Result<Vec<u8>, RowError> {
+    /// A text that an object makes: its first key tells how.
+    fn composed(&self, form: Entry<'_>) -> Result<Vec<u8>, RowError> {
+        let alloc = self.alloc;
+        let Some((first, _)) = form.members()?.first() else {
+            return Err(form.is_no("text"));
+        };
+        match first.as_str() {
+            "lf" => {
+                let lines = form.object(&["lf"])?.must("lf")?.texts()?;
+                Ok(ended(alloc, lines.as_slice(), "\n")?)
+            }
+            "texts" => self.joined(form.object(&["texts"])?.must("texts")?),
+            "hex" => self.unhexed(form.object(&["hex"])?.must("hex")?),
+            "text" | "times" => self.repeated(form.object(&["text", "times"])?),
+            _ => self.changed(form.object(&["of", "line", "becomes"])?),
+        }
+    }
+
+    fn changed(&self, form: Object<'_>) -> Result<Vec<u8>, RowError> {
+        let name = form.must("of")?.text()?;
+        let change = Change {
+            line: form.must("line")?.number()?,
+            becomes: form.must("becomes")?.texts()?,
+        };
+        match changed(self.alloc, self.get(name)?, &change)? {
+            Some(made) => Ok(made),
+            None => Err(RowError::NoLine(String::from_str(self.alloc, name)?)),
+        }
+    }
+
+    fn repeated(&self, form: Object<'_>) -> Result<Vec<u8>, RowError> {
+        let text = form.must("text")?.text()?;
+        let times = form.must("times")?;
+        match u32::try_from(times.number()?) {
+            Ok(number) => Ok(text.repeat(self.alloc, number as usize)?.into_bytes()),
+            Err(_) => Err(times.is_no("number below 2^32")),
+        }
+    }
+
+    fn joined(&self, names: Entry<'_>) -> Result<Vec<u8>, RowError> {
         let mut made = Vec::new(self.alloc);
-        for name in names {
+        for name in &names.texts()? {
             made.extend_from_slice(self.get(name.as_str())?)?;
         }
         Ok(made)
+    }
+
+    fn unhexed(&self, form: Entry<'_>) -> Result<Vec<u8>, RowError> {
+        match hex::decode(self.alloc, form.text()?) {
+            Ok(bytes) => Ok(bytes),
+            Err(_) => Err(form.is_no("hex text")),
+        }
     }
 
     fn get(&self, name: &str) -> Result<&[u8], RowError> {
