@@ -18,3 +18,5 @@ mod outfits;
 mod real_folder;
 #[cfg(test)]
 mod std_streams;
+#[cfg(test)]
+mod vdir;
