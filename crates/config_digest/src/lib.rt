@@ -2,7 +2,9 @@
 #![tactic(auto)]
 
 mod digest;
+mod laws;
 mod order;
 mod writing;
 
 pub use digest::digest_of;
+pub use laws::digest_tells;

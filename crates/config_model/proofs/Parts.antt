@@ -38,40 +38,40 @@ joined_none p =
 none_joined : (p : Parts) → joined no_parts p ≡ p
 none_joined p = refl
 
-next_is : (section : Section) (rest : List Section) → parts_of (section ∷ rest) ≡ (part_of section >>= λ part. parts_of rest >>= λ later. Ok (joined part later))
+next_is : (all : List Section) (section : Section) (rest : List Section) → parts_of all (section ∷ rest) ≡ (part_of all section >>= λ part. parts_of all rest >>= λ later. Ok (joined part later))
 unfolding parts_of
-next_is section rest = refl
+next_is all section rest = refl
 
 together_next : (p q : Parts) (found : Result Parts ConfigError) → together (joined p q) found ≡ together p (together q found)
 together_next p q (Ok later) = ap (λ (x : Parts). Ok x) (joined_assoc p q later)
 together_next p q (Err e) = refl
 
-pub part_read : (parts next part : Parts) (sections : List Section) (i : ℕ) (section : Section) → i < length sections → section ≡ get_or sections i section → next ≡ joined parts part → part_of section ≡ Ok part
-    → together parts (parts_of (drop i sections)) ≡ parts_of sections → together next (parts_of (drop (i + 1) sections)) ≡ parts_of sections
-part_read parts next part sections i section within at is read on =
-    ap (λ (p : Parts). together p (parts_of (drop (i + 1) sections))) is
-    ∙ together_next parts part (parts_of (drop (i + 1) sections))
-    ∙ ap (λ (r : Result Parts ConfigError). together parts (r >>= λ p. parts_of (drop (i + 1) sections) >>= λ later. Ok (joined p later))) (sym read)
-    ∙ ap (together parts) (sym (next_is section (drop (i + 1) sections)))
-    ∙ ap (λ (l : List Section). together parts (parts_of l)) (sym (rest_is sections i section within at))
+pub part_read : (all : List Section) (parts next part : Parts) (sections : List Section) (i : ℕ) (section : Section) → i < length sections → section ≡ get_or sections i section → next ≡ joined parts part → part_of all section ≡ Ok part
+    → together parts (parts_of all (drop i sections)) ≡ parts_of all sections → together next (parts_of all (drop (i + 1) sections)) ≡ parts_of all sections
+part_read all parts next part sections i section within at is read on =
+    ap (λ (p : Parts). together p (parts_of all (drop (i + 1) sections))) is
+    ∙ together_next parts part (parts_of all (drop (i + 1) sections))
+    ∙ ap (λ (r : Result Parts ConfigError). together parts (r >>= λ p. parts_of all (drop (i + 1) sections) >>= λ later. Ok (joined p later))) (sym read)
+    ∙ ap (together parts) (sym (next_is all section (drop (i + 1) sections)))
+    ∙ ap (λ (l : List Section). together parts (parts_of all l)) (sym (rest_is sections i section within at))
     ∙ on
 
-pub part_refused : (parts : Parts) (sections : List Section) (i : ℕ) (section : Section) (e : ConfigError) → i < length sections → section ≡ get_or sections i section → part_of section ≡ Err e
-    → together parts (parts_of (drop i sections)) ≡ parts_of sections → parts_of sections ≡ Err e
-part_refused parts sections i section e within at bad on =
+pub part_refused : (all : List Section) (parts : Parts) (sections : List Section) (i : ℕ) (section : Section) (e : ConfigError) → i < length sections → section ≡ get_or sections i section → part_of all section ≡ Err e
+    → together parts (parts_of all (drop i sections)) ≡ parts_of all sections → parts_of all sections ≡ Err e
+part_refused all parts sections i section e within at bad on =
     sym on
-    ∙ ap (λ (l : List Section). together parts (parts_of l)) (rest_is sections i section within at)
-    ∙ ap (together parts) (next_is section (drop (i + 1) sections))
-    ∙ ap (λ (r : Result Parts ConfigError). together parts (r >>= λ p. parts_of (drop (i + 1) sections) >>= λ later. Ok (joined p later))) bad
+    ∙ ap (λ (l : List Section). together parts (parts_of all l)) (rest_is sections i section within at)
+    ∙ ap (together parts) (next_is all section (drop (i + 1) sections))
+    ∙ ap (λ (r : Result Parts ConfigError). together parts (r >>= λ p. parts_of all (drop (i + 1) sections) >>= λ later. Ok (joined p later))) bad
 
 together_none : (found : Result Parts ConfigError) → together no_parts found ≡ found
 together_none (Ok later) = refl
 together_none (Err e) = refl
 
-pub parts_first : (parts : Parts) (sections : List Section) → parts ≡ no_parts → together parts (parts_of sections) ≡ parts_of sections
-parts_first parts sections is = ap (λ (p : Parts). together p (parts_of sections)) is ∙ together_none (parts_of sections)
+pub parts_first : (all : List Section) (parts : Parts) (sections : List Section) → parts ≡ no_parts → together parts (parts_of all sections) ≡ parts_of all sections
+parts_first all parts sections is = ap (λ (p : Parts). together p (parts_of all sections)) is ∙ together_none (parts_of all sections)
 
-pub parts_last : (parts : Parts) (sections : List Section) (i : ℕ) → length sections ≤ i → together parts (parts_of (drop i sections)) ≡ parts_of sections → parts_of sections ≡ Ok parts
+pub parts_last : (all : List Section) (parts : Parts) (sections : List Section) (i : ℕ) → length sections ≤ i → together parts (parts_of all (drop i sections)) ≡ parts_of all sections → parts_of all sections ≡ Ok parts
 unfolding parts_of
-parts_last parts sections i over on =
-    sym on ∙ ap (λ (l : List Section). together parts (parts_of l)) (drop_of_length-le sections over) ∙ ap (λ (p : Parts). Ok p) (joined_none parts)
+parts_last all parts sections i over on =
+    sym on ∙ ap (λ (l : List Section). together parts (parts_of all l)) (drop_of_length-le sections over) ∙ ap (λ (p : Parts). Ok p) (joined_none parts)

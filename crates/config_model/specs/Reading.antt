@@ -22,7 +22,7 @@ use Rattle.config_model.specs.Keys.{refused_in, unless_refused, needed}
 use Rattle.config_model.specs.Pairs.{pair_of}
 use Rattle.config_model.specs.Storages.{storage_of}
 
--- ---- what each section says
+-- ---- what each section says, in a configuration of these sections
 
 unfoldable pub general_of : List ℕ → List Entry → Result (List ℕ) ConfigError
 general_of section entries = unless_refused (refused_in section place.General entries) (needed text_in section (codes "status_path") entries)
@@ -42,18 +42,18 @@ with_pair pair = record { status_path = None; pairs = pair ∷ []; storages = []
 abbrev pub with_storage : StorageConf → Parts
 with_storage storage = record { status_path = None; pairs = []; storages = storage ∷ [] }
 
-abbrev pub part_by : SectionKind → List ℕ → List ℕ → List Entry → Result Parts ConfigError
-part_by General section name entries = general_of section entries >>= λ path. Ok (with_path path)
-part_by Pair section name entries = pair_of section name entries >>= λ pair. Ok (with_pair pair)
-part_by Storage section name entries = storage_of section name entries >>= λ storage. Ok (with_storage storage)
+abbrev pub part_by : List Section → SectionKind → List ℕ → List ℕ → List Entry → Result Parts ConfigError
+part_by sections General section name entries = general_of section entries >>= λ path. Ok (with_path path)
+part_by sections Pair section name entries = pair_of sections section name entries >>= λ pair. Ok (with_pair pair)
+part_by sections Storage section name entries = storage_of section name entries >>= λ storage. Ok (with_storage storage)
 
-unfoldable pub part_of : Section → Result Parts ConfigError
-part_of section = part_by section.title.kind (section_name section.title) section.title.name section.entries
+unfoldable pub part_of : List Section → Section → Result Parts ConfigError
+part_of sections section = part_by sections section.title.kind (section_name section.title) section.title.name section.entries
 
--- what these sections say; the first that is refused is told
-unfoldable pub parts_of : List Section → Result Parts ConfigError
-parts_of [] = Ok no_parts
-parts_of (section ∷ rest) = part_of section >>= λ part. parts_of rest >>= λ later. Ok (joined part later)
+-- what some of the sections say; the first that is refused is told
+unfoldable pub parts_of : List Section → List Section → Result Parts ConfigError
+parts_of sections [] = Ok no_parts
+parts_of sections (section ∷ rest) = part_of sections section >>= λ part. parts_of sections rest >>= λ later. Ok (joined part later)
 
 -- ---- the whole
 
@@ -82,4 +82,4 @@ whole parts = whole_by parts.status_path parts.pairs parts.storages
 
 -- the configuration that a list of bytes is, or why it is none
 unfoldable pub config_of : List ℕ → Result Config ConfigError
-config_of bytes = sections_read bytes >>= λ sections. parts_of sections >>= whole
+config_of bytes = sections_read bytes >>= λ sections. parts_of sections sections >>= whole

@@ -28,6 +28,8 @@ pub struct PairConf {
     pub command: Sequence<Text>,
     pub partial: Partial,
     pub metadata: Sequence<MetaKey>,
+    /// The SHA-256 in hex of the pair and its storages, as they are written.
+    pub digest: Text,
 }
 
 /// A storage.

@@ -1,6 +1,8 @@
 //! A section of a pair.
 
-ghost use Rattle.std.specs.Prelude.{◌≡◌};
+ghost use Rattle.std.specs.Prelude.{◌≡◌, IfOk};
+ghost use Rattle.std.specs.List.{find};
+ghost use Rattle.std.specs.Option.{option_copied};
 ghost use Rattle.config_ini.specs.Answers.{Gives};
 ghost use Rattle.config_model.specs.Pairs as spec;
 
@@ -10,18 +12,64 @@ use crate::keys::{
     find_refused, needed_collections, needed_text, optional_metadata, optional_partial,
     optional_rule,
 };
-use config_ini::{ConfigError, Entry};
-use std::alloc::Global;
+use config_digest::digest_of;
+use config_ini::{ConfigError, Entry, Section, SectionKind};
+use std::alloc::{AllocError, Global};
 use values::Text;
+
+fn is_storage_of(name: &str, section: &Section) -> bool
+    ensures { result ≡ spec.is_storage_of name.now section.now }
+{
+    match section.title.kind {
+        SectionKind::General => false,
+        SectionKind::Pair => false,
+        SectionKind::Storage => section.title.name.as_str() == name,
+    }
+}
+
+fn section_at<'a>(sections: &'a [Section], name: &str) -> Option<&'a Section>
+    ensures { option_copied result ≡ find (λ s. spec.is_storage_of name.now s) sections.now }
+{
+    sections.iter().find(|section| is_storage_of(name, section))
+}
+
+/// The keys and values of the storage of this name.
+#[tactic(auto, unfolding(crate::specs::Pairs::storage_at))]
+fn storage_at<'a>(sections: &'a [Section], name: &str) -> &'a [Entry]
+    ensures { result.now ≡ spec.storage_at sections.now name.now }
+{
+    match section_at(sections, name) {
+        Some(section) => section.entries.as_slice(),
+        None => &[],
+    }
+}
+
+fn pair_digest(
+    alloc: Global,
+    sections: &[Section],
+    entries: &[Entry],
+    a: &Text,
+    b: &Text,
+) -> Result<Text, AllocError>
+    ensures { IfOk result (λ digest. digest ≡ spec.pair_digest sections.now entries.now a.now b.now) }
+{
+    digest_of(
+        alloc,
+        entries,
+        storage_at(sections, a.as_str()),
+        storage_at(sections, b.as_str()),
+    )
+}
 
 #[tactic(auto, unfolding(crate::specs::Pairs::pair_values))]
 fn pair_values(
     alloc: Global,
+    sections: &[Section],
     section: &str,
     name: &str,
     entries: &[Entry],
 ) -> Result<PairConf, ConfigError>
-    ensures { Gives (spec.pair_values section.now name.now entries.now) result }
+    ensures { Gives (spec.pair_values sections.now section.now name.now entries.now) result }
 {
     let a = needed_text(alloc, section, "a", entries)?;
     let b = needed_text(alloc, section, "b", entries)?;
@@ -29,6 +77,7 @@ fn pair_values(
     let conflict = optional_rule(alloc, "conflict_resolution", entries)?;
     let partial = optional_partial("partial_sync", entries)?;
     let metadata = optional_metadata(alloc, "metadata", entries)?;
+    let digest = pair_digest(alloc, sections, entries, &a, &b)?;
     Ok(PairConf {
         name: Text::copy_of(alloc, name)?,
         a,
@@ -38,6 +87,7 @@ fn pair_values(
         command: conflict.command,
         partial,
         metadata,
+        digest,
     })
 }
 
@@ -45,14 +95,15 @@ fn pair_values(
 #[tactic(auto, unfolding(crate::specs::Pairs::pair_of))]
 pub(crate) fn pair_of(
     alloc: Global,
+    sections: &[Section],
     section: &str,
     name: &str,
     entries: &[Entry],
 ) -> Result<PairConf, ConfigError>
-    ensures { Gives (spec.pair_of section.now name.now entries.now) result }
+    ensures { Gives (spec.pair_of sections.now section.now name.now entries.now) result }
 {
     match find_refused(alloc, section, Place::Pair, entries) {
-        Ok(()) => pair_values(alloc, section, name, entries),
+        Ok(()) => pair_values(alloc, sections, section, name, entries),
         Err(error) => Err(error),
     }
 }

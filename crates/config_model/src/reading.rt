@@ -100,12 +100,13 @@ fn general_of(alloc: Global, section: &str, entries: &[Entry]) -> Result<Text, C
 
 fn part_by(
     alloc: Global,
+    sections: &[Section],
     kind: SectionKind,
     section: &str,
     name: &str,
     entries: &[Entry],
 ) -> Result<Parts, ConfigError>
-    ensures { Gives (spec.part_by kind section.now name.now entries.now) result }
+    ensures { Gives (spec.part_by sections.now kind section.now name.now entries.now) result }
 {
     match kind {
         SectionKind::General => {
@@ -113,7 +114,7 @@ fn part_by(
             Ok(with_path(alloc, path))
         }
         SectionKind::Pair => {
-            let pair = pair_of(alloc, section, name, entries)?;
+            let pair = pair_of(alloc, sections, section, name, entries)?;
             Ok(with_pair(alloc, pair)?)
         }
         SectionKind::Storage => {
@@ -125,12 +126,13 @@ fn part_by(
 
 /// What a section says.
 #[tactic(auto, unfolding(crate::specs::Reading::part_of))]
-fn part_of(alloc: Global, section: &Section) -> Result<Parts, ConfigError>
-    ensures { Gives (spec.part_of section.now) result }
+fn part_of(alloc: Global, sections: &[Section], section: &Section) -> Result<Parts, ConfigError>
+    ensures { Gives (spec.part_of sections.now section.now) result }
 {
     let name = section_name(alloc, &section.title)?;
     part_by(
         alloc,
+        sections,
         section.title.kind,
         name.as_str(),
         section.title.name.as_str(),
@@ -139,11 +141,11 @@ fn part_of(alloc: Global, section: &Section) -> Result<Parts, ConfigError>
 }
 
 fn parts_of(alloc: Global, sections: &[Section]) -> Result<Parts, ConfigError>
-    ensures { Gives (spec.parts_of sections.now) result }
+    ensures { Gives (spec.parts_of sections.now sections.now) result }
 {
     let mut parts = no_parts(alloc);
     for section in sections {
-        let part = match part_of(alloc, section) {
+        let part = match part_of(alloc, sections, section) {
             Ok(part) => part,
             Err(error) => return Err(error),
         };

@@ -122,6 +122,3 @@ impl<R: Files + AllocGlobal + Clone + Drop> Folder for DirFolder<R> {
         counted(&mut self.faults, done)
     }
 }
-
-#[cfg(test)]
-mod tests;

@@ -184,6 +184,3 @@ impl Folder for MemFolder {
         }
     }
 }
-
-#[cfg(test)]
-mod tests;

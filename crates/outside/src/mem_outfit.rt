@@ -78,6 +78,3 @@ impl Outfit for MemOutfit {
         self.slots.give_dir(path, dir)
     }
 }
-
-#[cfg(test)]
-mod tests;

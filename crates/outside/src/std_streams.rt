@@ -151,6 +151,3 @@ impl<O: Write + Drop> Sink for StdSink<O> {
         }
     }
 }
-
-#[cfg(test)]
-mod tests;

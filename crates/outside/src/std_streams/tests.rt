@@ -1,1 +1,0 @@
-//! Its calls are tested in the crate `call_tests`.
