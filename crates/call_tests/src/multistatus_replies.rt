@@ -19,7 +19,7 @@ const BEHIND_PROPERTY: &str =
     "</p></prop><status>HTTP/1.1 200 OK</status></propstat></response></multistatus>";
 
 /// Replies, each in three pieces, and what each is read as.
-const REPLIES: [([&str; 3], &str); 81] = [
+static REPLIES: [([&str; 3], &str); 81] = [
     (
         [
             "<?xml version=\"1.0\" encoding=\"utf-8\"?>\r\n<multistatus xmlns=\"DAV:\"><response><href> /c/x.vcf\n</href><propstat><prop><getetag>\"1\"</getetag></prop><status>HTTP/1.1 200 OK</status></propstat><propstat><prop><displayname/></prop><status>HTTP/1.1 404 Not Found</status></propstat></response></multistatus>",
