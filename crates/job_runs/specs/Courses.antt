@@ -5,8 +5,8 @@ use Rattle.item_text.specs.Items.{ItemValue, item_of}
 use Rattle.status_keeper.specs.declared.row.Row.{Row}
 use Rattle.store_model.specs.declared.event.Held.{Held}
 use Rattle.store_model.specs.Sides.{SideState, Evolves, Since, IsNoWrite}
+use Rattle.side_reads.specs.Places.{href_on, etag_on}
 use Rattle.sync_plan.specs.declared.report.Side.{Side}
-use Rattle.sync_plan.specs.declared.report.Side.TheVariants.{A, B}
 use Rattle.sync_plan.specs.Merging.{Within}
 
 -- a side at entry, when all was read, and at exit, with the rows that the run loaded
@@ -21,14 +21,6 @@ pub record Course : Type 0 where
 pub record IsCourse (c : Course) : Type 0 where
   pub reads : Evolves IsNoWrite c.entry c.read
   pub later : Since c.read c.exit
-
-abbrev pub href_on : Side → Row → Option (List ℕ)
-href_on A r = r.href_a
-href_on B r = r.href_b
-
-abbrev pub etag_on : Side → Row → Option (List ℕ)
-etag_on A r = r.etag_a
-etag_on B r = r.etag_b
 
 -- one of the rows is of this ident and version, and has this href and etag for the side
 pub record IsRowAt (c : Course) (ident version href etag : List ℕ) : Type 0 where

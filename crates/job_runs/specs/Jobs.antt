@@ -14,7 +14,8 @@ use Rattle.sync_plan.specs.declared.dues.Step.TheVariants.{Held as HeldStep}
 use Rattle.sync_plan.specs.Verdicts.{Versions, other_side, step_of}
 use Rattle.sync_plan.specs.JobSteps.{on_side, written, IsPutOn}
 use Rattle.side_views.specs.Views.{view, IsProperAt}
-use Rattle.job_runs.specs.Courses.{Course, IsCourse, href_on, etag_on, AreTrueRows}
+use Rattle.job_runs.specs.Courses.{Course, IsCourse, AreTrueRows}
+use Rattle.side_reads.specs.Places.{href_on, etag_on}
 use Rattle.job_runs.specs.Taken.{Took}
 use Rattle.job_runs.specs.Writes.{WroteFor, WroteAll, WroteSome, after_all, IsPlace}
 

@@ -6,7 +6,8 @@ use Rattle.store_model.specs.declared.event.StoreEvent.{StoreEvent}
 use Rattle.store_model.specs.declared.event.StoreEvent.TheVariants.{Edited, Toggled, Wrote, Read}
 use Rattle.store_model.specs.Sides.{SideState, happens, IsTrueEvent, Evolves, Sometime, WasRead, HoldsText, IsTextOf}
 use Rattle.side_views.specs.Views.{IsPut}
-use Rattle.job_runs.specs.Courses.{Course, href_on, etag_on}
+use Rattle.job_runs.specs.Courses.{Course}
+use Rattle.side_reads.specs.Places.{href_on, etag_on}
 use Rattle.job_runs.specs.Taken.{IsTaken, IsOverTaken}
 
 abbrev pub IsNewOf : List ℕ → Option Held → Type 0
