@@ -1,6 +1,6 @@
 //! What a store is: the calls of every kind of storage, and what each may do.
 
-ghost use Rattle.std.specs.Prelude.{◌≡◌, ℕ, Bool, true, false, List, [], ◌∷◌, IfErr};
+ghost use Rattle.std.specs.Prelude.{◌≡◌, ◌≤◌, ℕ, Bool, true, false, List, [], ◌∷◌, length, map, IfOk, IfErr};
 ghost use Rattle.outside.specs.Causes.{Rose};
 ghost use Rattle.store_model.specs.declared.store.StoreError.TheVariants.{NoMemory as out_of_memory};
 
@@ -169,6 +169,8 @@ pub trait Store {
         ensures kind { Stays waits is_sure self.old self.new }
         ensures kept { KeepsByList is_listed recalls self.old self.new result }
         ensures hrefs { TakenByList (taken self.old) (taken self.new) result }
+        ensures few { IfOk result (λ entries. length entries.items ≤ MAX_ITEMS) }
+        ensures waiting { waiting self.new ≡ waiting self.old }
         ensures same { setting self.new ≡ setting self.old };
 
     /// The items at these hrefs, in their order. The first href that is gone, or whose text isn't
@@ -181,6 +183,8 @@ pub trait Store {
         ensures kind { Stays waits is_sure self.old self.new }
         ensures kept { Keeps is_listed recalls self.old self.new }
         ensures hrefs { (q : List ℕ) → taken self.new q ≡ taken self.old q }
+        ensures asked { IfOk result (λ fetched. map (λ f. f.href) fetched.items ≡ hrefs.now) }
+        ensures waiting { waiting self.new ≡ waiting self.old }
         ensures same { setting self.new ≡ setting self.old };
 
     /// Stores an item under a new href. `Moved` comes exactly where the chosen name is taken or

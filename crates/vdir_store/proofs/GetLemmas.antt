@@ -86,3 +86,14 @@ get_turn all i x name given now s m t f h e same more first second so_far k =
 -- the loop has ended
 pub get_end : (all : List (List ℕ)) (i : ℕ) (s t : SideState) (fetched : Vec Fetched Global) → length all ≤ i → GetSoFar (take i all) fetched.items s t → GetAnswer (λ c. ⊥) s t all (Ok fetched)
 get_end all i s t fetched h k = (k.asked ∙ take_all i all h, all_fetched_got (λ c. ⊥) s t fetched.items k.fetched, k.reads)
+
+-- the items so far are at the hrefs so far
+pub asked_none : (given : List Fetched) → given ≡ [] → map (λ f. f.href) given ≡ []
+asked_none given e = ap (map (λ (f : Fetched). f.href)) e
+
+pub asked_turn : (all : List (List ℕ)) (i : ℕ) (x name : List ℕ) (given now : List Fetched) (f : Fetched) → i < length all → x ≡ get_or all i x → name ≡ x → now ≡ given ++ f ∷ [] → map (λ f. f.href) given ≡ take i all → f.href ≡ name → map (λ f. f.href) now ≡ take (i + 1) all
+asked_turn all i x name given now f h e same more so named =
+    ap (map (λ (f : Fetched). f.href)) more ∙ (map-append (λ (f : Fetched). f.href) given (f ∷ []) ∙ ((λ j. so j ++ named j ∷ []) ∙ one_turn all i x name h e same))
+
+pub asked_end : (all : List (List ℕ)) (i : ℕ) (given : List Fetched) → length all ≤ i → map (λ f. f.href) given ≡ take i all → map (λ f. f.href) given ≡ all
+asked_end all i given h so = so ∙ take_all i all h

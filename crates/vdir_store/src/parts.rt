@@ -1,6 +1,6 @@
 //! What the store's calls do with its folder.
 
-ghost use Rattle.std.specs.Prelude.{[], ◌∷◌, ◌≡◌, ◌≤◌, ◌⊎◌, ℕ, List, true, false, Some, filter, map, IfOk, IfErr, string_bytes, IsTrue};
+ghost use Rattle.std.specs.Prelude.{[], ◌∷◌, ◌≡◌, ◌≤◌, ◌⊎◌, ℕ, List, true, false, Some, filter, map, length, IfOk, IfErr, string_bytes, IsTrue};
 ghost use Rattle.std.specs.List.{list_all};
 ghost use Rattle.std.specs.BTreeSet.{contains_text};
 ghost use Rattle.outside.specs.Causes.{Rose};
@@ -63,6 +63,7 @@ pub fn listing<F: Folder>(
     ensures changes { Changes F.count F.tells (λ f. side_of ending.now (F.state f)) IsOutside folder.old folder.new }
     ensures cause { IfErr result (StoreCause (Rose (F.count folder.old) (F.count folder.new))) }
     ensures answer { F.tells folder.old → Sometime (IsListing result) (side_of ending.now (F.state folder.old)) (side_of ending.now (F.state folder.new)) }
+    ensures few { IfOk result (λ entries. length entries.items ≤ MAX_ITEMS) }
 {
     let Some(files) = folder.names(ending)? else {
         return Err(StoreError::NotThere);
@@ -87,6 +88,7 @@ pub fn refresh<F: Folder>(
     ensures changes { Changes F.count F.tells (λ f. side_of ending.now (F.state f)) IsOutside folder.old folder.new }
     ensures cause { IfErr result (StoreCause (Rose (F.count folder.old) (F.count folder.new))) }
     ensures answer { F.tells folder.old → Sometime (IsListing result) (side_of ending.now (F.state folder.old)) (side_of ending.now (F.state folder.new)) }
+    ensures few { IfOk result (λ entries. length entries.items ≤ MAX_ITEMS) }
     ensures names { TakenByList (contains_text names.old) (contains_text names.new) result }
 {
     let entries = listing(folder, alloc, ending)?;
@@ -126,6 +128,7 @@ pub fn fetch<F: Folder>(
     ensures changes { Changes F.count F.tells (λ f. side_of ending.now (F.state f)) (IsGetOf (name.now ∷ [])) folder.old folder.new }
     ensures cause { IfErr result (StoreCause (Rose (F.count folder.old) (F.count folder.new))) }
     ensures answer { F.tells folder.old → FetchAnswer (side_of ending.now (F.state folder.old)) (side_of ending.now (F.state folder.new)) name.now result }
+    ensures asked { IfOk result (λ f. f.href ≡ name.now) }
 {
     if !is_item(ending, name) {
         return Err(vanished(alloc, name));
@@ -156,6 +159,7 @@ pub fn fetch_all<F: Folder>(
     ensures changes { Changes F.count F.tells (λ f. side_of ending.now (F.state f)) (IsGetOf hrefs.now) folder.old folder.new }
     ensures cause { IfErr result (StoreCause (Rose (F.count folder.old) (F.count folder.new))) }
     ensures answer { F.tells folder.old → GetAnswer (λ c. ⊥) (side_of ending.now (F.state folder.old)) (side_of ending.now (F.state folder.new)) hrefs.now result }
+    ensures asked { IfOk result (λ fetched. map (λ f. f.href) fetched.items ≡ hrefs.now) }
 {
     let mut fetched = Vec::new(alloc);
     for href in hrefs {

@@ -1,0 +1,9 @@
+//! What one run of one job reads before it writes: the status, both listings, and of each side the items whose place no row
+//! has, in this order. Nothing calls it yet.
+#![tactic(auto)]
+
+mod reading;
+mod stop;
+
+pub use reading::{ReadJob, read_job};
+pub use stop::Stop;
