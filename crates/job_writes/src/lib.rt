@@ -1,0 +1,10 @@
+//! What one run of one job writes for the steps of its plan: all steps but removals in byte order of idents, then the
+//! removals. Nothing calls it yet.
+#![tactic(auto)]
+
+mod outcome;
+mod putting;
+mod sources;
+mod steps;
+
+pub use outcome::Outcome;

@@ -1,0 +1,110 @@
+//! The calls of a step that writes an item.
+
+ghost use Rattle.std.specs.Prelude.{◌≡◌, ℕ, List, true, IfOk};
+ghost use Rattle.outside.specs.Causes.{Rose};
+ghost use Rattle.store_model.specs.Sides.{IsAnyEvent};
+ghost use Rattle.store_model.specs.StoreCalls.{Changes, Stays, Keeps};
+ghost use Rattle.sync_plan.specs.declared.report.Side.TheVariants as side;
+ghost use Rattle.job_writes.specs.Writings.{now_of, sources, IsPut, FitsPut, CopyStep, OverStep, RemovalStep, PutStep, IsCausedOn, IsCausedOutcome};
+
+use crate::outcome::Outcome;
+use crate::putting::{copy_to, remove_from, write_over};
+use crate::sources::{seen_at, source_at};
+use side_reads::Holding;
+use std::alloc::{AllocError, Global};
+use store_model::Store;
+use sync_plan::{Planned, Side, Step};
+
+/// Copies the item at the other side's place.
+fn copy_step<S: Store>(
+    alloc: Global,
+    store: &mut S,
+    side: Side,
+    other: &Holding,
+    place: Option<u32>,
+) -> Result<Outcome, AllocError>
+    requires { S.is_listed store.old ≡ true }
+    ensures changes { Changes S.count S.tells S.side IsAnyEvent store.old store.new }
+    ensures answer { S.tells store.old → CopyStep (S.waits store.old) side other.now place (now_of (S.side store.old) (S.waiting store.old)) (now_of (S.side store.new) (S.waiting store.new)) result }
+    ensures fits { IfOk result (IsPut side) }
+    ensures cause { IfOk result (IsCausedOn side (Rose (S.count store.old) (S.count store.new))) }
+    ensures kind { Stays S.waits S.is_sure store.old store.new }
+    ensures kept { Keeps S.is_listed S.recalls store.old store.new }
+    ensures same { S.setting store.new ≡ S.setting store.old }
+{
+    match source_at(other, place) {
+        Some(from) => copy_to(alloc, store, side, from),
+        None => Err(AllocError),
+    }
+}
+
+/// Writes the item at the other side's place over the one at this side's place.
+fn over_step<S: Store>(
+    alloc: Global,
+    store: &mut S,
+    side: Side,
+    own: &Holding,
+    own_place: Option<u32>,
+    other: &Holding,
+    place: Option<u32>,
+) -> Result<Outcome, AllocError>
+    requires { S.is_listed store.old ≡ true }
+    ensures changes { Changes S.count S.tells S.side IsAnyEvent store.old store.new }
+    ensures answer { S.tells store.old → OverStep (S.waits store.old) side own.now own_place other.now place (now_of (S.side store.old) (S.waiting store.old)) (now_of (S.side store.new) (S.waiting store.new)) result }
+    ensures fits { IfOk result (IsPut side) }
+    ensures cause { IfOk result (IsCausedOn side (Rose (S.count store.old) (S.count store.new))) }
+    ensures kind { Stays S.waits S.is_sure store.old store.new }
+    ensures kept { Keeps S.is_listed S.recalls store.old store.new }
+    ensures taken { (q : List ℕ) → S.taken store.new q ≡ S.taken store.old q }
+    ensures same { S.setting store.new ≡ S.setting store.old }
+{
+    let Some(over) = seen_at(own, own_place) else {
+        return Err(AllocError);
+    };
+    match source_at(other, place) {
+        Some(from) => write_over(alloc, store, side, over, from),
+        None => Err(AllocError),
+    }
+}
+
+/// Does one step, but for removals, whose turn comes later.
+pub fn put_step<A: Store, B: Store>(
+    alloc: Global,
+    a: &mut A,
+    b: &mut B,
+    held_a: &Holding,
+    held_b: &Holding,
+    planned: &Planned,
+) -> Result<Outcome, AllocError>
+    requires listed_a { A.is_listed a.old ≡ true }
+    requires listed_b { B.is_listed b.old ≡ true }
+    ensures changes_a { Changes A.count A.tells A.side IsAnyEvent a.old a.new }
+    ensures changes_b { Changes B.count B.tells B.side IsAnyEvent b.old b.new }
+    ensures answer_a { A.tells a.old → PutStep (A.waits a.old) side.A (sources held_a.now held_b.now) planned.now (now_of (A.side a.old) (A.waiting a.old)) (now_of (A.side a.new) (A.waiting a.new)) result }
+    ensures answer_b { B.tells b.old → PutStep (B.waits b.old) side.B (sources held_a.now held_b.now) planned.now (now_of (B.side b.old) (B.waiting b.old)) (now_of (B.side b.new) (B.waiting b.new)) result }
+    ensures fits { IfOk result (FitsPut planned.now.step) }
+    ensures cause { IfOk result (IsCausedOutcome (Rose (A.count a.old) (A.count a.new)) (Rose (B.count b.old) (B.count b.new))) }
+    ensures kind_a { Stays A.waits A.is_sure a.old a.new }
+    ensures kind_b { Stays B.waits B.is_sure b.old b.new }
+    ensures listed_a { A.is_listed a.new ≡ A.is_listed a.old }
+    ensures listed_b { B.is_listed b.new ≡ B.is_listed b.old }
+    ensures same_a { A.setting a.new ≡ A.setting a.old }
+    ensures same_b { B.setting b.new ≡ B.setting b.old }
+{
+    match planned.step {
+        Step::Keep => Ok(Outcome::Kept),
+        Step::Forget => Ok(Outcome::Gone),
+        Step::Conflict => Ok(Outcome::Conflict),
+        Step::RemoveFrom(_) => Ok(Outcome::Left),
+        Step::HandOver => Ok(Outcome::Left),
+        Step::Held(_) => Ok(Outcome::Left),
+        Step::CopyTo(Side::A) => copy_step(alloc, a, Side::A, held_b, planned.b),
+        Step::CopyTo(Side::B) => copy_step(alloc, b, Side::B, held_a, planned.a),
+        Step::WriteOver(Side::A) => {
+            over_step(alloc, a, Side::A, held_a, planned.a, held_b, planned.b)
+        }
+        Step::WriteOver(Side::B) => {
+            over_step(alloc, b, Side::B, held_b, planned.b, held_a, planned.a)
+        }
+    }
+}
