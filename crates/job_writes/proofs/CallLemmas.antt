@@ -25,6 +25,10 @@ unsent_sends c NotThere s t h = absurd h
 unsent_sends c (Vanished href) s t h = absurd h
 unsent_sends c (BadItem href error) s t h = absurd h
 
+pub new_sends : (item : ItemValue) (s t : SideNow) (error : StoreError) → NewFails item.text error s t → (href : List ℕ) × Sends (new_at href item.text) s t
+new_sends item s t error (inl h) = ([], inl (inl h.0.0, h.0.1))
+new_sends item s t error (inr h) = (h.0, unsent_sends (new_at h.0 item.text) error s t h.1)
+
 -- a new item's call
 module _ (waits : Bool) (may : List ℕ → Type 0) (side : Side) (from : Seen) (item : ItemValue) (s t : SideNow) where
   new_fails : (error : StoreError) → PutNewAnswer waits may item s.state s.waiting t.state t.waiting (Err error) → NewFails item.text error s t
@@ -39,13 +43,9 @@ module _ (waits : Bool) (may : List ℕ → Type 0) (side : Side) (from : Seen) 
   new_fails (Vanished href) h = absurd h
   new_fails (BadItem href error) h = absurd h
 
-  new_sends : (error : StoreError) → NewFails item.text error s t → (href : List ℕ) × Sends (new_at href item.text) s t
-  new_sends error (inl h) = ([], inl (inl h.0.0, h.0.1))
-  new_sends error (inr h) = (h.0, unsent_sends (new_at h.0 item.text) error s t h.1)
-
   pub copy_fails : (error : StoreError) (r : Result Outcome AllocError) → IfOk r (λ o. o ≡ NotWritten side error) → PutNewAnswer waits may item s.state s.waiting t.state t.waiting (Err error) → CopyAnswer waits side from item s t r
   copy_fails error (Ok o) told h = subst (λ (o : Outcome). CopyAnswer waits side from item s t (Ok o)) (sym told) (refl, new_fails error h)
-  copy_fails error (Err e) told h = new_sends error (new_fails error h)
+  copy_fails error (Err e) told h = new_sends item s t error (new_fails error h)
 
 pub over_fails : (waits : Bool) (side : Side) (over from : Seen) (item : ItemValue) (s t : SideNow) (error : StoreError) (r : Result Outcome AllocError) → IfOk r (λ o. o ≡ NotWritten side error) → IsUnsent (over_at over.href over.etag item.text) error s t → OverAnswer waits side over from item s t r
 over_fails waits side over from item s t error (Ok o) told h = subst (λ (o : Outcome). OverAnswer waits side over from item s t (Ok o)) (sym told) (refl, h)

@@ -3,6 +3,8 @@ use Rattle.std.specs.Prelude.{◌≡◌, ◌⊎◌, ℕ, Bool, true, false, ◌|
 use Rattle.std.specs.Borrow.{Bor}
 use Rattle.std.specs.Option.{option_and_then}
 use Rattle.std.specs.declared.alloc.AllocError.{AllocError}
+use Rattle.std.specs.declared.alloc.Global.{Global}
+use Rattle.std.specs.declared.vec.Vec.{Vec}
 use Rattle.item_text.specs.Items.{ItemValue}
 use Rattle.store_model.specs.declared.store.StoreError.{StoreError}
 use Rattle.store_model.specs.declared.store.StoreError.TheVariants as store
@@ -288,3 +290,93 @@ IsRemoval side Left = ⊥
 IsRemoval side Conflict = ⊥
 IsRemoval side (NotWritten at error) = ⊥
 IsRemoval side Skipped = ⊥
+
+-- ---- the removals
+
+-- a write that wasn't Ok
+abbrev pub is_failure : Outcome → Bool
+is_failure (NotWritten at error) = true
+is_failure (NotRemoved at error) = true
+is_failure Kept = false
+is_failure Gone = false
+is_failure (Written row) = false
+is_failure Left = false
+is_failure Conflict = false
+is_failure Skipped = false
+
+-- what a removal did on a side: after a write that wasn't Ok none is sent any more
+abbrev pub RemovalBy : Step → Bool → Bool → Side → Sources → Planned → SideNow → SideNow → Outcome → Type 0
+RemovalBy (step.RemoveFrom from) true waits side x p s t o = t ≡ s
+RemovalBy (step.RemoveFrom from) false waits side x p s t o = IfOn from side (RemovalDid waits side (held_on side x) (place_on side p) s t o) (t ≡ s)
+RemovalBy (step.CopyTo to) failed waits side x p s t o = t ≡ s
+RemovalBy (step.WriteOver to) failed waits side x p s t o = t ≡ s
+RemovalBy step.Forget failed waits side x p s t o = t ≡ s
+RemovalBy step.Keep failed waits side x p s t o = t ≡ s
+RemovalBy step.HandOver failed waits side x p s t o = t ≡ s
+RemovalBy step.Conflict failed waits side x p s t o = t ≡ s
+RemovalBy (step.Held to) failed waits side x p s t o = t ≡ s
+
+abbrev pub RemovalDone : Bool → Side → Sources → Bool → Planned → SideNow → SideNow → Outcome → Type 0
+RemovalDone waits side x failed p s t o = RemovalBy p.step failed waits side x p s t o
+
+abbrev pub RemovalSentBy : Step → Side → Sources → Planned → SideNow → SideNow → Type 0
+RemovalSentBy (step.RemoveFrom from) side x p s t = IfOn from side (RemovalSent (held_on side x) (place_on side p) s t) ⊥
+RemovalSentBy (step.CopyTo to) side x p s t = ⊥
+RemovalSentBy (step.WriteOver to) side x p s t = ⊥
+RemovalSentBy step.Forget side x p s t = ⊥
+RemovalSentBy step.Keep side x p s t = ⊥
+RemovalSentBy step.HandOver side x p s t = ⊥
+RemovalSentBy step.Conflict side x p s t = ⊥
+RemovalSentBy (step.Held to) side x p s t = ⊥
+
+abbrev pub RemovalTried : Side → Sources → Planned → SideNow → SideNow → Type 0
+RemovalTried side x p s t = (t ≡ s) ⊎ RemovalSentBy p.step side x p s t
+
+abbrev pub RemovalTurn : Bool → Side → Sources → Bool → Planned → SideNow → SideNow → Result Outcome AllocError → Type 0
+RemovalTurn waits side x failed p s t (Ok o) = RemovalDone waits side x failed p s t o
+RemovalTurn waits side x failed p s t (Err e) = RemovalTried side x p s t
+
+abbrev pub FitsRemoval : Bool → Step → Outcome → Type 0
+FitsRemoval true (step.RemoveFrom from) o = o ≡ Skipped
+FitsRemoval false (step.RemoveFrom from) o = IsRemoval from o
+FitsRemoval failed (step.CopyTo to) o = o ≡ Left
+FitsRemoval failed (step.WriteOver to) o = o ≡ Left
+FitsRemoval failed step.Forget o = o ≡ Left
+FitsRemoval failed step.Keep o = o ≡ Left
+FitsRemoval failed step.HandOver o = o ≡ Left
+FitsRemoval failed step.Conflict o = o ≡ Left
+FitsRemoval failed (step.Held to) o = o ≡ Left
+
+-- ---- all steps of a plan, one after another
+
+-- each did its part on the side; the flag says whether one before it has failed
+abbrev pub InOrder : (Bool → Planned → SideNow → SideNow → Outcome → Type 0) → Bool → List Planned → List Outcome → SideNow → SideNow → Type 0
+InOrder Did failed [] [] s t = t ≡ s
+InOrder Did failed (p ∷ ps) (o ∷ os) s t = (m : SideNow) × Did failed p s m o × InOrder Did (failed || is_failure o) ps os m t
+InOrder Did failed [] (o ∷ os) s t = ⊥
+InOrder Did failed (p ∷ ps) [] s t = ⊥
+
+-- each did its part on the side, or nothing
+abbrev pub AllTried : (Planned → SideNow → SideNow → Type 0) → List Planned → SideNow → SideNow → Type 0
+AllTried Tried [] s t = t ≡ s
+AllTried Tried (p ∷ ps) s t = (m : SideNow) × Tried p s m × AllTried Tried ps m t
+
+-- each step has an outcome that it may have
+abbrev pub AllFit : (Bool → Planned → Outcome → Type 0) → Bool → List Planned → List Outcome → Type 0
+AllFit Fits failed [] [] = Unit {0}
+AllFit Fits failed (p ∷ ps) (o ∷ os) = Fits failed p o × AllFit Fits (failed || is_failure o) ps os
+AllFit Fits failed [] (o ∷ os) = ⊥
+AllFit Fits failed (p ∷ ps) [] = ⊥
+
+abbrev pub PutsAnswer : Bool → Side → Sources → List Planned → SideNow → SideNow → Result (Vec Outcome Global) AllocError → Type 0
+PutsAnswer waits side x ps s t (Ok os) = InOrder (λ failed. PutDid waits side x) false ps os.items s t
+PutsAnswer waits side x ps s t (Err e) = AllTried (PutTried side x) ps s t
+
+abbrev pub RemovalsAnswer : Bool → Side → Sources → Bool → List Planned → SideNow → SideNow → Result (Vec Outcome Global) AllocError → Type 0
+RemovalsAnswer waits side x failed ps s t (Ok os) = InOrder (RemovalDone waits side x) failed ps os.items s t
+RemovalsAnswer waits side x failed ps s t (Err e) = AllTried (RemovalTried side x) ps s t
+
+-- whether one of them has failed, or one before them
+abbrev pub failed_after : Bool → List Outcome → Bool
+failed_after failed [] = failed
+failed_after failed (o ∷ os) = failed_after (failed || is_failure o) os

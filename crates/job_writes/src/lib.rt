@@ -3,8 +3,10 @@
 #![tactic(auto)]
 
 mod outcome;
+mod phases;
 mod putting;
 mod sources;
 mod steps;
 
 pub use outcome::Outcome;
+pub use phases::put_all;

@@ -5,7 +5,7 @@ ghost use Rattle.outside.specs.Causes.{Rose};
 ghost use Rattle.store_model.specs.Sides.{IsAnyEvent};
 ghost use Rattle.store_model.specs.StoreCalls.{Changes, Stays, Keeps};
 ghost use Rattle.sync_plan.specs.declared.report.Side.TheVariants as side;
-ghost use Rattle.job_writes.specs.Writings.{now_of, sources, IsPut, FitsPut, CopyStep, OverStep, RemovalStep, PutStep, IsCausedOn, IsCausedOutcome};
+ghost use Rattle.job_writes.specs.Writings.{now_of, sources, IsPut, IsRemoval, FitsPut, FitsRemoval, CopyStep, OverStep, RemovalStep, PutStep, RemovalTurn, IsCausedOn, IsCausedOutcome};
 
 use crate::outcome::Outcome;
 use crate::putting::{copy_to, remove_from, write_over};
@@ -106,5 +106,65 @@ pub fn put_step<A: Store, B: Store>(
         Step::WriteOver(Side::B) => {
             over_step(alloc, b, Side::B, held_b, planned.b, held_a, planned.a)
         }
+    }
+}
+
+/// Removes the item at this side's place.
+fn removal_step<S: Store>(
+    store: &mut S,
+    side: Side,
+    own: &Holding,
+    own_place: Option<u32>,
+) -> Result<Outcome, AllocError>
+    requires { S.is_listed store.old ≡ true }
+    ensures changes { Changes S.count S.tells S.side IsAnyEvent store.old store.new }
+    ensures answer { S.tells store.old → RemovalStep (S.waits store.old) side own.now own_place (now_of (S.side store.old) (S.waiting store.old)) (now_of (S.side store.new) (S.waiting store.new)) result }
+    ensures fits { IfOk result (IsRemoval side) }
+    ensures cause { IfOk result (IsCausedOn side (Rose (S.count store.old) (S.count store.new))) }
+    ensures kind { Stays S.waits S.is_sure store.old store.new }
+    ensures kept { Keeps S.is_listed S.recalls store.old store.new }
+    ensures same { S.setting store.new ≡ S.setting store.old }
+{
+    match seen_at(own, own_place) {
+        Some(over) => remove_from(store, side, over),
+        None => Err(AllocError),
+    }
+}
+
+/// Does the turn of one step among the removals; after a write that wasn't Ok nothing is removed.
+pub fn removal_turn<A: Store, B: Store>(
+    a: &mut A,
+    b: &mut B,
+    held_a: &Holding,
+    held_b: &Holding,
+    planned: &Planned,
+    failed: bool,
+) -> Result<Outcome, AllocError>
+    requires listed_a { A.is_listed a.old ≡ true }
+    requires listed_b { B.is_listed b.old ≡ true }
+    ensures changes_a { Changes A.count A.tells A.side IsAnyEvent a.old a.new }
+    ensures changes_b { Changes B.count B.tells B.side IsAnyEvent b.old b.new }
+    ensures answer_a { A.tells a.old → RemovalTurn (A.waits a.old) side.A (sources held_a.now held_b.now) failed planned.now (now_of (A.side a.old) (A.waiting a.old)) (now_of (A.side a.new) (A.waiting a.new)) result }
+    ensures answer_b { B.tells b.old → RemovalTurn (B.waits b.old) side.B (sources held_a.now held_b.now) failed planned.now (now_of (B.side b.old) (B.waiting b.old)) (now_of (B.side b.new) (B.waiting b.new)) result }
+    ensures fits { IfOk result (FitsRemoval failed planned.now.step) }
+    ensures cause { IfOk result (IsCausedOutcome (Rose (A.count a.old) (A.count a.new)) (Rose (B.count b.old) (B.count b.new))) }
+    ensures kind_a { Stays A.waits A.is_sure a.old a.new }
+    ensures kind_b { Stays B.waits B.is_sure b.old b.new }
+    ensures listed_a { A.is_listed a.new ≡ A.is_listed a.old }
+    ensures listed_b { B.is_listed b.new ≡ B.is_listed b.old }
+    ensures same_a { A.setting a.new ≡ A.setting a.old }
+    ensures same_b { B.setting b.new ≡ B.setting b.old }
+{
+    match planned.step {
+        Step::RemoveFrom(_) if failed => Ok(Outcome::Skipped),
+        Step::RemoveFrom(Side::A) => removal_step(a, Side::A, held_a, planned.a),
+        Step::RemoveFrom(Side::B) => removal_step(b, Side::B, held_b, planned.b),
+        Step::Keep => Ok(Outcome::Left),
+        Step::Forget => Ok(Outcome::Left),
+        Step::Conflict => Ok(Outcome::Left),
+        Step::HandOver => Ok(Outcome::Left),
+        Step::Held(_) => Ok(Outcome::Left),
+        Step::CopyTo(_) => Ok(Outcome::Left),
+        Step::WriteOver(_) => Ok(Outcome::Left),
     }
 }

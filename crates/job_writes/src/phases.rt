@@ -1,0 +1,61 @@
+//! All steps of a plan: first all but the removals, then the removals.
+
+ghost use Rattle.std.specs.Prelude.{◌≡◌, ◌++◌, ◌∷◌, [], false, true, IfOk, OnOk};
+ghost use Rattle.std.specs.List.{AllByRecursion};
+ghost use Rattle.outside.specs.Causes.{Rose};
+ghost use Rattle.store_model.specs.Sides.{IsAnyEvent};
+ghost use Rattle.store_model.specs.StoreCalls.{Changes, Stays};
+ghost use Rattle.sync_plan.specs.declared.report.Side.TheVariants as side;
+ghost use Rattle.job_writes.specs.Writings.{now_of, sources, FitsPut, FitsRemoval, AllFit, PutsAnswer, RemovalsAnswer, IsCausedOutcome, is_failure};
+
+use crate::outcome::Outcome;
+use crate::steps::{put_step, removal_turn};
+use side_reads::Holding;
+use std::alloc::{AllocError, Global};
+use store_model::Store;
+use sync_plan::Planned;
+
+fn add(outcomes: &mut Vec<Outcome>, outcome: Outcome) -> Result<(), AllocError>
+    ensures { OnOk result (outcomes.new.items ≡ outcomes.old.items ++ outcome ∷ []) }
+{
+    outcomes.push(outcome)?;
+    Ok(())
+}
+
+/// Does all steps of a plan but the removals, in their order.
+pub fn put_all<A: Store, B: Store>(
+    alloc: Global,
+    a: &mut A,
+    b: &mut B,
+    held_a: &Holding,
+    held_b: &Holding,
+    plan: &[Planned],
+) -> Result<Vec<Outcome>, AllocError>
+    requires listed_a { A.is_listed a.old ≡ true }
+    requires listed_b { B.is_listed b.old ≡ true }
+    ensures changes_a { Changes A.count A.tells A.side IsAnyEvent a.old a.new }
+    ensures changes_b { Changes B.count B.tells B.side IsAnyEvent b.old b.new }
+    ensures answer_a { A.tells a.old → PutsAnswer (A.waits a.old) side.A (sources held_a.now held_b.now) plan.now (now_of (A.side a.old) (A.waiting a.old)) (now_of (A.side a.new) (A.waiting a.new)) result }
+    ensures answer_b { B.tells b.old → PutsAnswer (B.waits b.old) side.B (sources held_a.now held_b.now) plan.now (now_of (B.side b.old) (B.waiting b.old)) (now_of (B.side b.new) (B.waiting b.new)) result }
+    ensures fits { IfOk result (λ os. AllFit (λ failed p. FitsPut p.step) false plan.now os.items) }
+    ensures causes { IfOk result (λ os. AllByRecursion (IsCausedOutcome (Rose (A.count a.old) (A.count a.new)) (Rose (B.count b.old) (B.count b.new))) os.items) }
+    ensures kind_a { Stays A.waits A.is_sure a.old a.new }
+    ensures kind_b { Stays B.waits B.is_sure b.old b.new }
+    ensures listed_a { A.is_listed a.new ≡ A.is_listed a.old }
+    ensures listed_b { B.is_listed b.new ≡ B.is_listed b.old }
+    ensures same_a { A.setting a.new ≡ A.setting a.old }
+    ensures same_b { B.setting b.new ≡ B.setting b.old }
+{
+    let mut outcomes = Vec::new(alloc);
+    for planned in plan {
+        match put_step(alloc, a, b, held_a, held_b, planned) {
+            Ok(outcome) => {
+                let Ok(()) = add(&mut outcomes, outcome) else {
+                    return Err(AllocError);
+                };
+            }
+            Err(error) => return Err(error),
+        }
+    }
+    Ok(outcomes)
+}
