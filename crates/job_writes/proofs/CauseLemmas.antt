@@ -43,3 +43,7 @@ cause_extends a0 a1 a2 a3 b0 b1 b2 b3 ea la eb lb o cause = outcome_weaker (Rose
 pub causes_extend : (a0 a1 a2 b0 b1 b2 : ℕ) → a1 ≤ a2 → b1 ≤ b2 → (os : List Outcome) → AllByRecursion (IsCausedOutcome (Rose a0 a1) (Rose b0 b1)) os → AllByRecursion (IsCausedOutcome (Rose a0 a2) (Rose b0 b2)) os
 causes_extend a0 a1 a2 b0 b1 b2 la lb [] all = tt
 causes_extend a0 a1 a2 b0 b1 b2 la lb (o ∷ os) all = (cause_extends a0 a0 a1 a2 b0 b0 b1 b2 (omega arith) la (omega arith) lb o all.0, causes_extend a0 a1 a2 b0 b1 b2 la lb os all.1)
+
+pub causes_begin : (a0 a1 a2 b0 b1 b2 : ℕ) → a0 ≤ a1 → b0 ≤ b1 → (os : List Outcome) → AllByRecursion (IsCausedOutcome (Rose a1 a2) (Rose b1 b2)) os → AllByRecursion (IsCausedOutcome (Rose a0 a2) (Rose b0 b2)) os
+causes_begin a0 a1 a2 b0 b1 b2 ea eb [] all = tt
+causes_begin a0 a1 a2 b0 b1 b2 ea eb (o ∷ os) all = (cause_extends a0 a1 a2 a2 b0 b1 b2 b2 ea (omega arith) eb (omega arith) o all.0, causes_begin a0 a1 a2 b0 b1 b2 ea eb os all.1)

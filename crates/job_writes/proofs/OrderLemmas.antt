@@ -171,3 +171,18 @@ pub removals_end : (waits : Bool) (side : Side) (x : Sources) (failed : Bool) (a
 removals_end waits side x failed all i d os s m t h done last =
     subst (λ (l : List Planned). AllTried (RemovalTried side x) l s t) (sym (turn_of all i d h))
     (tried_ends (RemovalTried side x) (λ q y. inl refl) (take i all) (get_or all i d) (drop (i + 1) all) s m t (order_tried (RemovalDone waits side x) (RemovalTried side x) (removal_tried waits side x) failed (take i all) os s m done) last)
+
+-- whether one of a list has failed, outcome by outcome
+pub failed_slice : (all : List Outcome) (i : ℕ) (x : Outcome) (now before : Bool) → i < length all → x ≡ get_or all i x → before ≡ failed_after false (take i all) → now ≡ (before || is_failure x) → now ≡ failed_after false (take (i + 1) all)
+failed_slice all i x now before h e so one =
+    one ∙ (ap (λ (b : Bool). b || is_failure x) so ∙ (sym (failed_push false (take i all) x) ∙ ap (failed_after false) (ap (λ y. take i all ++ y ∷ []) e ∙ sym (take_more all i x h))))
+
+-- nothing is tried
+pub puts_refl : (side : Side) (x : Sources) (ps : List Planned) (s : SideNow) → AllTried (PutTried side x) ps s s
+puts_refl side x ps s = tried_refl (PutTried side x) (λ q y. inl refl) ps s
+
+pub removals_refl : (side : Side) (x : Sources) (ps : List Planned) (s : SideNow) → AllTried (RemovalTried side x) ps s s
+removals_refl side x ps s = tried_refl (RemovalTried side x) (λ q y. inl refl) ps s
+
+pub puts_tried : (waits : Bool) (side : Side) (x : Sources) (ps : List Planned) (os : List Outcome) (s t : SideNow) → InOrder (λ failed. PutDid waits side x) false ps os s t → AllTried (PutTried side x) ps s t
+puts_tried waits side x ps os s t done = order_tried (λ failed. PutDid waits side x) (PutTried side x) (λ failed q y z o did. put_tried waits side x q y z o did) false ps os s t done

@@ -1,6 +1,7 @@
 -- What a run writes for the steps of its plan, in their order (this project's own).
 use Rattle.std.specs.Prelude.{◌≡◌, ◌⊎◌, ℕ, Bool, true, false, ◌||◌, List, [], ◌∷◌, ◌++◌, Option, Some, None, Result, Ok, Err, slice_get}
 use Rattle.std.specs.Borrow.{Bor}
+use Rattle.std.specs.List.{AllByRecursion}
 use Rattle.std.specs.Option.{option_and_then}
 use Rattle.std.specs.declared.alloc.AllocError.{AllocError}
 use Rattle.std.specs.declared.alloc.Global.{Global}
@@ -21,6 +22,7 @@ use Rattle.sync_plan.specs.declared.seen.Planned.{Planned}
 use Rattle.sync_plan.specs.Verdicts.{other_side}
 use Rattle.side_reads.specs.declared.holding.Holding.{Holding}
 use Rattle.job_writes.specs.declared.outcome.Outcome.{Outcome}
+use Rattle.job_writes.specs.declared.phases.Outcomes.{Outcomes}
 use Rattle.job_writes.specs.declared.outcome.Outcome.TheVariants.{Kept, Gone, Written, Left, Conflict, NotWritten, NotRemoved, Skipped}
 
 -- ---- places of a listing
@@ -380,3 +382,31 @@ RemovalsAnswer waits side x failed ps s t (Err e) = AllTried (RemovalTried side 
 abbrev pub failed_after : Bool → List Outcome → Bool
 failed_after failed [] = failed
 failed_after failed (o ∷ os) = failed_after (failed || is_failure o) os
+
+-- ---- both phases
+
+-- what was done on a side: first the steps but removals, then the removals
+pub record WritesDid (waits : Bool) (side : Side) (x : Sources) (ps : List Planned) (s t : SideNow) (os : Outcomes) : Type 0 where
+  pub between : SideNow
+  pub puts : InOrder (λ failed. PutDid waits side x) false ps os.put.items s between
+  pub removals : InOrder (RemovalDone waits side x) (failed_after false os.put.items) ps os.removed.items between t
+
+-- and where the run ended among them
+pub record WritesTried (side : Side) (x : Sources) (ps : List Planned) (s t : SideNow) : Type 0 where
+  pub between : SideNow
+  pub puts : AllTried (PutTried side x) ps s between
+  pub removals : AllTried (RemovalTried side x) ps between t
+
+abbrev pub WritesAnswer : Bool → Side → Sources → List Planned → SideNow → SideNow → Result Outcomes AllocError → Type 0
+WritesAnswer waits side x ps s t (Ok os) = WritesDid waits side x ps s t os
+WritesAnswer waits side x ps s t (Err e) = WritesTried side x ps s t
+
+-- each step has its outcomes
+pub record IsWhole (ps : List Planned) (os : Outcomes) : Type 0 where
+  pub put : AllFit (λ failed p. FitsPut p.step) false ps os.put.items
+  pub removed : AllFit (λ failed p. FitsRemoval failed p.step) (failed_after false os.put.items) ps os.removed.items
+
+-- each error has its cause
+pub record AreCaused (a b : Type 0) (os : Outcomes) : Type 0 where
+  pub put : AllByRecursion (IsCausedOutcome a b) os.put.items
+  pub removed : AllByRecursion (IsCausedOutcome a b) os.removed.items

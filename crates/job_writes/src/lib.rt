@@ -9,4 +9,4 @@ mod sources;
 mod steps;
 
 pub use outcome::Outcome;
-pub use phases::put_all;
+pub use phases::{Outcomes, write_all};

@@ -1,12 +1,12 @@
 //! All steps of a plan: first all but the removals, then the removals.
 
-ghost use Rattle.std.specs.Prelude.{◌≡◌, ◌++◌, ◌∷◌, [], false, true, IfOk, OnOk};
+ghost use Rattle.std.specs.Prelude.{◌≡◌, ◌||◌, ◌++◌, ◌∷◌, [], false, true, IfOk, OnOk};
 ghost use Rattle.std.specs.List.{AllByRecursion};
 ghost use Rattle.outside.specs.Causes.{Rose};
 ghost use Rattle.store_model.specs.Sides.{IsAnyEvent};
 ghost use Rattle.store_model.specs.StoreCalls.{Changes, Stays};
 ghost use Rattle.sync_plan.specs.declared.report.Side.TheVariants as side;
-ghost use Rattle.job_writes.specs.Writings.{now_of, sources, FitsPut, FitsRemoval, AllFit, PutsAnswer, RemovalsAnswer, IsCausedOutcome, is_failure};
+ghost use Rattle.job_writes.specs.Writings.{now_of, sources, FitsPut, FitsRemoval, AllFit, PutsAnswer, RemovalsAnswer, WritesAnswer, IsWhole, IsCausedOutcome, AreCaused, is_failure, failed_after};
 
 use crate::outcome::Outcome;
 use crate::steps::{put_step, removal_turn};
@@ -23,7 +23,7 @@ fn add(outcomes: &mut Vec<Outcome>, outcome: Outcome) -> Result<(), AllocError>
 }
 
 /// Does all steps of a plan but the removals, in their order.
-pub fn put_all<A: Store, B: Store>(
+fn put_all<A: Store, B: Store>(
     alloc: Global,
     a: &mut A,
     b: &mut B,
@@ -58,4 +58,109 @@ pub fn put_all<A: Store, B: Store>(
         }
     }
     Ok(outcomes)
+}
+
+/// Whether one has failed, or one before it.
+fn fails(before: bool, outcome: &Outcome) -> bool
+    ensures { result ≡ (before || is_failure outcome.now) }
+{
+    match outcome {
+        Outcome::NotWritten { side: _, error: _ } => true,
+        Outcome::NotRemoved { side: _, error: _ } => true,
+        _ => before,
+    }
+}
+
+/// Whether one of them has failed.
+fn any_failure(outcomes: &[Outcome]) -> bool
+    ensures { result ≡ failed_after false outcomes.now }
+{
+    let mut failed = false;
+    for outcome in outcomes {
+        failed = fails(failed, outcome);
+    }
+    failed
+}
+
+/// Does the removals of a plan, in their order; after a write that wasn't Ok none is sent any more.
+fn remove_all<A: Store, B: Store>(
+    alloc: Global,
+    a: &mut A,
+    b: &mut B,
+    held_a: &Holding,
+    held_b: &Holding,
+    plan: &[Planned],
+    failed: bool,
+) -> Result<Vec<Outcome>, AllocError>
+    requires listed_a { A.is_listed a.old ≡ true }
+    requires listed_b { B.is_listed b.old ≡ true }
+    ensures changes_a { Changes A.count A.tells A.side IsAnyEvent a.old a.new }
+    ensures changes_b { Changes B.count B.tells B.side IsAnyEvent b.old b.new }
+    ensures answer_a { A.tells a.old → RemovalsAnswer (A.waits a.old) side.A (sources held_a.now held_b.now) failed plan.now (now_of (A.side a.old) (A.waiting a.old)) (now_of (A.side a.new) (A.waiting a.new)) result }
+    ensures answer_b { B.tells b.old → RemovalsAnswer (B.waits b.old) side.B (sources held_a.now held_b.now) failed plan.now (now_of (B.side b.old) (B.waiting b.old)) (now_of (B.side b.new) (B.waiting b.new)) result }
+    ensures fits { IfOk result (λ os. AllFit (λ failed p. FitsRemoval failed p.step) failed plan.now os.items) }
+    ensures causes { IfOk result (λ os. AllByRecursion (IsCausedOutcome (Rose (A.count a.old) (A.count a.new)) (Rose (B.count b.old) (B.count b.new))) os.items) }
+    ensures kind_a { Stays A.waits A.is_sure a.old a.new }
+    ensures kind_b { Stays B.waits B.is_sure b.old b.new }
+    ensures listed_a { A.is_listed a.new ≡ A.is_listed a.old }
+    ensures listed_b { B.is_listed b.new ≡ B.is_listed b.old }
+    ensures same_a { A.setting a.new ≡ A.setting a.old }
+    ensures same_b { B.setting b.new ≡ B.setting b.old }
+{
+    let mut outcomes = Vec::new(alloc);
+    let mut halted = failed;
+    for planned in plan {
+        match removal_turn(a, b, held_a, held_b, planned, halted) {
+            Ok(outcome) => {
+                halted = fails(halted, &outcome);
+                let Ok(()) = add(&mut outcomes, outcome) else {
+                    return Err(AllocError);
+                };
+            }
+            Err(error) => return Err(error),
+        }
+    }
+    Ok(outcomes)
+}
+
+/// What became of all steps of a plan: in the first phase of all but the removals, in the second of the removals.
+#[derive(Debug, Drop)]
+pub struct Outcomes {
+    pub put: Vec<Outcome>,
+    pub removed: Vec<Outcome>,
+}
+
+/// Does all steps of a plan: those that write, then the removals. Nothing is removed after a write that wasn't Ok.
+pub fn write_all<A: Store, B: Store>(
+    alloc: Global,
+    a: &mut A,
+    b: &mut B,
+    held_a: &Holding,
+    held_b: &Holding,
+    plan: &[Planned],
+) -> Result<Outcomes, AllocError>
+    requires listed_a { A.is_listed a.old ≡ true }
+    requires listed_b { B.is_listed b.old ≡ true }
+    ensures changes_a { Changes A.count A.tells A.side IsAnyEvent a.old a.new }
+    ensures changes_b { Changes B.count B.tells B.side IsAnyEvent b.old b.new }
+    ensures answer_a { A.tells a.old → WritesAnswer (A.waits a.old) side.A (sources held_a.now held_b.now) plan.now (now_of (A.side a.old) (A.waiting a.old)) (now_of (A.side a.new) (A.waiting a.new)) result }
+    ensures answer_b { B.tells b.old → WritesAnswer (B.waits b.old) side.B (sources held_a.now held_b.now) plan.now (now_of (B.side b.old) (B.waiting b.old)) (now_of (B.side b.new) (B.waiting b.new)) result }
+    ensures fits { IfOk result (IsWhole plan.now) }
+    ensures causes { IfOk result (AreCaused (Rose (A.count a.old) (A.count a.new)) (Rose (B.count b.old) (B.count b.new))) }
+    ensures kind_a { Stays A.waits A.is_sure a.old a.new }
+    ensures kind_b { Stays B.waits B.is_sure b.old b.new }
+    ensures listed_a { A.is_listed a.new ≡ A.is_listed a.old }
+    ensures listed_b { B.is_listed b.new ≡ B.is_listed b.old }
+    ensures same_a { A.setting a.new ≡ A.setting a.old }
+    ensures same_b { B.setting b.new ≡ B.setting b.old }
+{
+    let put = match put_all(alloc, a, b, held_a, held_b, plan) {
+        Ok(put) => put,
+        Err(error) => return Err(error),
+    };
+    let failed = any_failure(&put);
+    match remove_all(alloc, a, b, held_a, held_b, plan, failed) {
+        Ok(removed) => Ok(Outcomes { put, removed }),
+        Err(error) => Err(error),
+    }
 }
