@@ -1,16 +1,15 @@
 -- What a reading of one side leaves.
-use Rattle.std.proofs.Common.{◌≡◌, ◌⊎◌, inl, inr, ℕ, suc, Bool, List, [], ◌∷◌, ◌++◌, map, length, Option, Some, None, Result, Ok, Err, refl, sym, ap, ◌∙◌, subst}
+use Rattle.std.proofs.Common.{◌≡◌, inl, inr, ℕ, suc, Bool, List, [], ◌∷◌, ◌++◌, map, length, Option, None, Ok, Err, refl, sym, ap, ◌∙◌, subst}
 use Rattle.std.specs.FinMap as fin
 use Rattle.std.specs.declared.vec.Vec.{Vec}
 use Rattle.std.specs.declared.alloc.Global.{Global}
 use Rattle.item_text.specs.Items.{ItemValue}
-use Rattle.store_model.specs.declared.event.Held.{Held}
 use Rattle.store_model.specs.declared.store.Entry.{Entry}
 use Rattle.store_model.specs.declared.store.Fetched.{Fetched}
 use Rattle.store_model.specs.declared.store.StoreError.{StoreError}
 use Rattle.store_model.specs.declared.store.StoreError.TheVariants.{Fault, Moved, TooLong, TooMany, NotThere, Vanished, BadItem, NoMemory}
 use Rattle.store_model.specs.Sides.{Content, SideState, Evolves, Since, Sometime, IsOutside, IsNoWrite}
-use Rattle.store_model.specs.StoreCalls.{IsListing, IsListed, HasFault, StoodOrListed, StopsAt, GetAnswer, read_of}
+use Rattle.store_model.specs.StoreCalls.{IsListed, HasFault, StoodOrListed, StopsAt, GetAnswer, read_of}
 use Rattle.store_model.proofs.Moments.{Evolves-refl, Evolves-trans, Evolves-weaker, Since-from_evolves, Sometime-extends, Sometime-weaker, outside_is_no_write, outside_keeps_reads, all_got_fetched}
 use Rattle.store_model.proofs.Lacks.{Evolves-first, Evolves-rest}
 use Rattle.status_keeper.specs.declared.row.Row.{Row}

@@ -1,10 +1,8 @@
 -- What was read of a side is what a run takes it to hold.
-use Rattle.std.proofs.Common.{◌≡◌, ◌⊎◌, inl, inr, ℕ, T, Bool, true, false, cond, ◌&&◌, List, [], ◌∷◌, map, Option, Some, None, Ok, Less, Equal, Greater, refl, sym, ap, ◌∙◌, subst, option_map}
+use Rattle.std.proofs.Common.{◌≡◌, ◌⊎◌, inl, inr, ℕ, zero, suc, T, Bool, true, false, cond, ◌&&◌, List, [], ◌∷◌, map, slice_get, Option, Some, None, Less, Equal, Greater, refl, sym, ap, ◌∙◌, subst, option_map}
 use Rattle.std.specs.FinMap as fin
 use Rattle.std.specs.FinMap.{entries_sorted, get-entries, find, is_sorted}
 use Rattle.std.specs.FinMap.Entries.{below_all}
-use Rattle.std.specs.List as lists
-use Rattle.std.specs.List.{AllByRecursion}
 use Rattle.std.specs.Ordering.{nat_cmp, eq_by_cmp, is_lt}
 use Rattle.std.specs.Cmp.Lexicographic.{slice_cmp}
 use Rattle.std.specs.Str.{bytes_eq}
@@ -14,14 +12,14 @@ use Rattle.std.proofs.lemmas.Map.Text.{is_eq-slice_cmp}
 use Rattle.std.proofs.lemmas.Slice.Eq.{bytes_eq-Decides}
 use Rattle.std.specs.declared.vec.Vec.{Vec}
 use Rattle.std.specs.declared.alloc.Global.{Global}
-use Rattle.item_text.specs.Items.{ItemValue, item_of}
+use Rattle.item_text.specs.Items.{ItemValue}
 use Rattle.store_model.specs.declared.event.Held.{Held}
 use Rattle.store_model.specs.declared.store.Entry.{Entry}
 use Rattle.store_model.specs.declared.store.Fetched.{Fetched}
-use Rattle.store_model.specs.Sides.{SideState, Since, Sometime, Evolves, IsNoWrite}
+use Rattle.store_model.specs.Sides.{Since, Sometime}
 use Rattle.store_model.specs.StoreCalls.{entry_of, WasFetched}
-use Rattle.store_model.proofs.Moments.{Evolves-refl, Evolves-trans, Evolves-weaker, Since-from_evolves, Sometime-extends, Sometime-weaker, outside_is_no_write}
-use Rattle.status_keeper.specs.Idents.{Precedes, IsRising}
+use Rattle.store_model.proofs.Moments.{Evolves-refl, Since-from_evolves, Sometime-extends, Sometime-weaker, WasRead-extends}
+use Rattle.status_keeper.specs.Idents.{Precedes}
 use Rattle.status_keeper.specs.declared.row.Row.{Row}
 use Rattle.sync_plan.specs.declared.report.Side.{Side}
 use Rattle.sync_plan.specs.declared.seen.Seen.{Seen}
@@ -29,10 +27,10 @@ use Rattle.sync_plan.specs.Merging.{Within}
 use Rattle.sync_plan.specs.Plans.{seen_of}
 use Rattle.sync_plan.proofs.Rising.{first_cases, precedes_differs, within_all}
 use Rattle.side_reads.specs.Places.{href_on, etag_on, is_text, is_at, row_at}
-use Rattle.side_reads.specs.Holdings.{IsTakenFor, AreTaken}
+use Rattle.side_reads.specs.Holdings.{IsOfText, IsTakenFor, AreTaken}
 use Rattle.job_runs.specs.Courses.{Course, IsRowAt}
-use Rattle.job_runs.specs.Taken.{StandsAs, HasEtag, IsTaken, StandsOther, FoundNone, Took}
-use Rattle.job_reads.specs.Readings.{Reads}
+use Rattle.job_runs.specs.Taken.{IsTaken, StandsOther, FoundNone, Took}
+use Rattle.job_reads.specs.Readings.{Reads, IsReadText}
 
 -- ---- the row at a place
 
@@ -146,7 +144,7 @@ module _ (c : Course) (entries : Vec Entry Global) (fetched : Vec Fetched Global
   item_taken : (href : List ℕ) (held : Held) (x : Seen) (text : Option ItemValue) (o : Option Row) → row_at c.side href held.etag c.rows ≡ o → fin.get (reads.listed).content href ≡ Some held → IsTakenFor fetched.items o (record { href = href; etag = held.etag }) x text → IsTaken c x.ident (x.fp).0 x.href x.etag
   item_taken href held x text (Some row) is stands (of, none) =
       let known : IsRowAt c x.ident (x.fp).0 x.href x.etag =
-          subst (λ (i : List ℕ). IsRowAt c i (x.fp).0 x.href x.etag) (sym of.ident) (subst (λ (v : List ℕ). IsRowAt c row.ident v x.href x.etag) (sym of.version) (subst (λ (h : List ℕ). IsRowAt c row.ident (row.fp).0 h x.etag) (sym of.href) (subst (λ (t : List ℕ). IsRowAt c row.ident (row.fp).0 href t) (sym of.etag) (row_taken href held.etag held row is))))
+      subst (λ (i : List ℕ). IsRowAt c i (x.fp).0 x.href x.etag) (sym of.ident) (subst (λ (v : List ℕ). IsRowAt c row.ident v x.href x.etag) (sym of.version) (subst (λ (h : List ℕ). IsRowAt c row.ident (row.fp).0 h x.etag) (sym of.href) (subst (λ (t : List ℕ). IsRowAt c row.ident (row.fp).0 href t) (sym of.etag) (row_taken href held.etag held row is))))
       in
       let here : fin.get (reads.listed).content x.href ≡ Some held = ap (fin.get (reads.listed).content) of.href ∙ stands in
       inr (record { moment = reads.listed; from = since; until = later; was = record { held = held; here = here; same_etag = sym of.etag } }, known)
@@ -204,3 +202,45 @@ module _ (c : Course) (entries : Vec Entry Global) (fetched : Vec Fetched Global
           subst (λ (o : Option Seen). Took c ident (option_map (λ y. (y.fp).0) o)) (sym some.1)
           (x.href, x.etag, subst (λ (i : List ℕ). IsTaken c i (x.fp).0 x.href x.etag) some.3 (each_taken x some.2))
     ]
+
+-- ---- a text that was fetched
+
+module _ (side : Side) (rows : List Row) (fetched : List Fetched) where
+  pub record IsFetched (x : Seen) (item : ItemValue) : Type 0 where
+    pub one : Fetched
+    pub is_in : Within one fetched
+    pub of : IsOfText one x
+    pub is_item : item ≡ one.item
+
+  fetched_for : (o : Option Row) (e : Entry) (x : Seen) (item : ItemValue) → IsTakenFor fetched o e x (Some item) → IsFetched x item
+  fetched_for (Some row) e x item (of, none) = cc
+  fetched_for None e x item (f, within, at, of, is_text) = record { one = f; is_in = within; of = of; is_item = cc }
+
+  fetched_at : (es : List Entry) (ss : List Seen) (ts : List (Option ItemValue)) (i : ℕ) (x : Seen) (item : ItemValue) → AreTaken side rows fetched es ss ts → slice_get ss i ≡ Some x → slice_get ts i ≡ Some (Some item) → IsFetched x item
+  fetched_at [] [] [] i x item taken is_x is_item = cc
+  fetched_at (e ∷ es) (s ∷ ss) (t ∷ ts) zero x item taken is_x is_item =
+      let one : s ≡ x = cc in
+      let two : t ≡ Some item = cc in
+      fetched_for (row_at side e.href e.etag rows) e x item (subst (λ (y : Seen). IsTakenFor fetched (row_at side e.href e.etag rows) e y (Some item)) one (subst (λ (u : Option ItemValue). IsTakenFor fetched (row_at side e.href e.etag rows) e s u) two taken.0))
+  fetched_at (e ∷ es) (s ∷ ss) (t ∷ ts) (suc i) x item taken is_x is_item = fetched_at es ss ts i x item taken.1 is_x is_item
+  fetched_at [] (s ∷ ss) ts i x item taken is_x is_item = absurd taken
+  fetched_at [] [] (t ∷ ts) i x item taken is_x is_item = absurd taken
+  fetched_at (e ∷ es) [] ts i x item taken is_x is_item = absurd taken
+  fetched_at (e ∷ es) (s ∷ ss) [] i x item taken is_x is_item = absurd taken
+
+module _ (c : Course) (entries : Vec Entry Global) (fetched : Vec Fetched Global) (reads : Reads c.side c.rows entries fetched c.entry c.read) where
+  read_of_fetched : (x : Seen) (item : ItemValue) → IsFetched c.side c.rows fetched.items x item → IsReadText c x item
+  read_of_fetched x item found =
+      let f = found.one in
+      let was : WasFetched reads.listed c.read f = within_all (WasFetched reads.listed c.read) fetched.items reads.each f found.is_in in
+      let since : Since c.entry reads.listed = Since-from_evolves reads.from in
+      subst (λ (i : ItemValue). IsReadText c x i) (sym found.is_item) (record {
+        is_item = was.is_item;
+        same_ident = sym found.of.ident;
+        same_version = sym found.of.version;
+        stood = Sometime-extends since (Sometime-weaker (λ m h. (f.href, record { etag = f.etag; text = f.item.text }, h, refl)) was.stood) (Evolves-refl c.read);
+        was_read = WasRead-extends since was.was_read (Evolves-refl c.read);
+      })
+
+  pub text_read : (ss : List Seen) (ts : List (Option ItemValue)) (i : ℕ) (x : Seen) (item : ItemValue) → AreTaken c.side c.rows fetched.items entries.items ss ts → slice_get ss i ≡ Some x → slice_get ts i ≡ Some (Some item) → IsReadText c x item
+  text_read ss ts i x item taken is_x is_item = read_of_fetched x item (fetched_at c.side c.rows fetched.items entries.items ss ts i x item taken is_x is_item)

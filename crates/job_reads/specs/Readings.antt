@@ -3,12 +3,12 @@ use Rattle.std.specs.Prelude.{◌≡◌, ℕ, Bool, true, false, List, [], ◌�
 use Rattle.std.specs.List.{AllByRecursion}
 use Rattle.std.specs.declared.vec.Vec.{Vec}
 use Rattle.std.specs.declared.alloc.Global.{Global}
-use Rattle.item_text.specs.Items.{ItemValue}
+use Rattle.item_text.specs.Items.{ItemValue, item_of}
 use Rattle.store_model.specs.declared.store.Entry.{Entry}
 use Rattle.store_model.specs.declared.store.Fetched.{Fetched}
 use Rattle.store_model.specs.declared.store.StoreError.{StoreError}
 use Rattle.store_model.specs.declared.store.StoreError.TheVariants as store
-use Rattle.store_model.specs.Sides.{Content, SideState, Evolves, Sometime, IsOutside, IsNoWrite}
+use Rattle.store_model.specs.Sides.{Content, SideState, Evolves, Sometime, WasRead, HoldsText, IsOutside, IsNoWrite}
 use Rattle.store_model.specs.StoreCalls.{IsListing, WasFetched, HasFault, GetAnswer, read_of}
 use Rattle.status_keeper.specs.declared.row.Row.{Row}
 use Rattle.status_keeper.specs.declared.keeper.KeeperError.{KeeperError}
@@ -20,6 +20,7 @@ use Rattle.sync_plan.specs.declared.report.Side.TheVariants.{A, B}
 use Rattle.sync_plan.specs.declared.seen.Seen.{Seen}
 use Rattle.side_reads.specs.declared.holding.Holding.{Holding}
 use Rattle.side_reads.specs.Holdings.{asked, AreTaken}
+use Rattle.job_runs.specs.Courses.{Course}
 use Rattle.job_reads.specs.declared.stop.Stop.{Stop}
 use Rattle.job_reads.specs.declared.stop.Stop.TheVariants.{Unloaded, Unlisted, Emptied, Unfetched, NoMemory}
 use Rattle.job_reads.specs.declared.reading.ReadJob.{ReadJob}
@@ -116,6 +117,23 @@ pub record IsRead (force : Bool) (x : Span) (r : ReadJob) : Type 0 where
   pub reads_b : Reads B r.rows.items entries_b fetched_b x.b x.b_now
   pub taken_a : AreTaken A r.rows.items fetched_a.items entries_a.items r.a.seen.items r.a.items.items
   pub taken_b : AreTaken B r.rows.items fetched_b.items entries_b.items r.b.seen.items r.b.items.items
+
+-- ---- what a run so knows of a side
+
+-- the item's text was read on the side, and stood there while the run read
+pub record IsReadText (c : Course) (seen : Seen) (item : ItemValue) : Type 0 where
+  pub is_item : item_of item.text ≡ Some item
+  pub same_ident : item.ident ≡ seen.ident
+  pub same_version : item.version ≡ (seen.fp).0
+  pub stood : Sometime (HoldsText item.text) c.entry c.read
+  pub was_read : WasRead c.entry c.read item.text
+
+-- each side's course, when it will have come to its exit
+abbrev pub course_of_a : Span → ReadJob → SideState → Course
+course_of_a x r exit = record { side = A; rows = r.rows.items; entry = x.a; read = x.a_now; exit = exit }
+
+abbrev pub course_of_b : Span → ReadJob → SideState → Course
+course_of_b x r exit = record { side = B; rows = r.rows.items; entry = x.b; read = x.b_now; exit = exit }
 
 -- ---- why it stops: what comes later in the order of the calls wasn't asked
 

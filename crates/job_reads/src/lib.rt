@@ -2,8 +2,10 @@
 //! has, in this order. Nothing calls it yet.
 #![tactic(auto)]
 
+mod laws;
 mod reading;
 mod stop;
 
+pub use laws::{readings_are_taken, texts_were_read};
 pub use reading::{ReadJob, read_job};
 pub use stop::Stop;

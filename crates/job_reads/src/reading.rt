@@ -112,11 +112,17 @@ pub fn read_job<A: Store, B: Store, K: Keeper>(
     };
     let entries_a = match a.list() {
         Ok(entries) => entries,
-        Err(error) => return Err(Stop::Unlisted { side: Side::A, error }),
+        Err(error) => return Err(Stop::Unlisted {
+            side: Side::A,
+            error,
+        }),
     };
     let entries_b = match b.list() {
         Ok(entries) => entries,
-        Err(error) => return Err(Stop::Unlisted { side: Side::B, error }),
+        Err(error) => return Err(Stop::Unlisted {
+            side: Side::B,
+            error,
+        }),
     };
     if let Some(side) = emptied_side(force_delete, &rows, &entries_a, &entries_b) {
         return Err(Stop::Emptied(side));

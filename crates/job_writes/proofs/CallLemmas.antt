@@ -1,5 +1,5 @@
 -- What the call of one step answered.
-use Rattle.std.proofs.Common.{◌≡◌, ◌⊎◌, inl, inr, ℕ, Bool, List, [], Option, Some, None, Result, Ok, Err, IfOk, OnOk, refl, sym, subst}
+use Rattle.std.proofs.Common.{◌≡◌, inl, inr, ℕ, Bool, List, [], Result, Ok, Err, IfOk, refl, sym, subst}
 use Rattle.std.specs.declared.alloc.AllocError.{AllocError}
 use Rattle.item_text.specs.Items.{ItemValue}
 use Rattle.store_model.specs.declared.store.StoreError.{StoreError}
@@ -13,7 +13,7 @@ use Rattle.sync_plan.specs.declared.report.Side.{Side}
 use Rattle.sync_plan.specs.declared.seen.Seen.{Seen}
 use Rattle.job_writes.specs.declared.outcome.Outcome.{Outcome}
 use Rattle.job_writes.specs.declared.outcome.Outcome.TheVariants.{NotWritten, NotRemoved}
-use Rattle.job_writes.specs.Writings.{SideNow, now_of, IsUnsent, NewFails, Sends, CopyAnswer, OverAnswer, RemovalAnswer}
+use Rattle.job_writes.specs.Writings.{SideNow, IsUnsent, NewFails, Sends, CopyAnswer, OverAnswer, RemovalAnswer}
 
 pub unsent_sends : (c : Change) (error : StoreError) (s t : SideNow) → IsUnsent c error s t → Sends c s t
 unsent_sends c Moved s t h = inl (inl h.0, h.2)

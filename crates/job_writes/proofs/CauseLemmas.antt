@@ -1,5 +1,5 @@
 -- Causes hold of the whole run.
-use Rattle.std.proofs.Common.{◌≡◌, ◌≤◌, ℕ, List, [], ◌∷◌, arith}
+use Rattle.std.proofs.Common.{◌≤◌, ℕ, List, [], ◌∷◌, arith}
 use Rattle.std.specs.List.{AllByRecursion}
 use Rattle.outside.specs.Causes.{Rose}
 use Rattle.store_model.specs.declared.store.StoreError.{StoreError}

@@ -130,11 +130,7 @@ fn not_removed(side: Side, error: StoreError) -> Result<Outcome, AllocError>
 }
 
 /// Removes an item from the side.
-pub fn remove_from<S: Store>(
-    store: &mut S,
-    side: Side,
-    over: &Seen,
-) -> Result<Outcome, AllocError>
+pub fn remove_from<S: Store>(store: &mut S, side: Side, over: &Seen) -> Result<Outcome, AllocError>
     requires { S.is_listed store.old ≡ true }
     ensures changes { Changes S.count S.tells S.side IsAnyEvent store.old store.new }
     ensures answer { S.tells store.old → RemovalAnswer (S.waits store.old) side over.now (now_of (S.side store.old) (S.waiting store.old)) (now_of (S.side store.new) (S.waiting store.new)) result }

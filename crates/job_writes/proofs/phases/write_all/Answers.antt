@@ -1,10 +1,9 @@
-use Rattle.std.proofs.Common.{◌∙◌, subst, Bool, List, arith}
+use Rattle.std.proofs.Common.{subst, Bool}
 use Rattle.store_model.proofs.Moments.{Changes-trans}
 use Rattle.sync_plan.specs.declared.report.Side.TheVariants.{A, B}
-use Rattle.job_writes.specs.declared.outcome.Outcome.{Outcome}
-use Rattle.job_writes.specs.Writings.{now_of, sources, FitsRemoval, AllFit, InOrder, RemovalDone, failed_after}
+use Rattle.job_writes.specs.Writings.{now_of, sources, FitsRemoval, AllFit, InOrder, RemovalDone}
 use Rattle.job_writes.proofs.CauseLemmas.{causes_extend, causes_begin}
-use Rattle.job_writes.proofs.OrderLemmas.{puts_refl, removals_refl, puts_tried}
+use Rattle.job_writes.proofs.OrderLemmas.{removals_refl, puts_tried}
 use Rattle.job_writes.proofs.phases.write_all.Goals as goal
 
 pub returns-in-Err-clause-answer_a : goal.returns-in-Err-clause-answer_a

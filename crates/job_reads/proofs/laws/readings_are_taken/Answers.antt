@@ -1,0 +1,9 @@
+use Rattle.job_reads.specs.Readings.{course_of_a, course_of_b}
+use Rattle.job_reads.proofs.TookLemmas.{took}
+use Rattle.job_reads.proofs.laws.readings_are_taken.Goals as goal
+
+pub returns-clause-on_a : goal.returns-clause-on_a
+returns-clause-on_a c force x r exit ident read = took (course_of_a x r exit) read.entries_a read.fetched_a read.reads_a r.a.seen.items r.a.items.items read.taken_a ident
+
+pub returns-clause-on_b : goal.returns-clause-on_b
+returns-clause-on_b c force x r exit ident read = took (course_of_b x r exit) read.entries_b read.fetched_b read.reads_b r.b.seen.items r.b.items.items read.taken_b ident
