@@ -4,7 +4,6 @@ use Rattle.std.specs.Str.{bytes_eq}
 use Rattle.std.proofs.lemmas.Bool.{false≢true}
 use Rattle.std.proofs.lemmas.Slice.Eq.{bytes_eq-Decides}
 use Rattle.std.specs.List.{AllByRecursion}
-use Rattle.store_model.specs.Sides.{SideState, Evolves}
 use Rattle.status_keeper.specs.declared.row.Row.{Row}
 use Rattle.status_keeper.specs.Idents.{Precedes, IsRising}
 use Rattle.sync_plan.specs.declared.report.Side.{Side}
@@ -18,10 +17,10 @@ use Rattle.sync_plan.specs.Verdicts.{step_of}
 use Rattle.sync_plan.specs.JobSteps.{on_side, written}
 use Rattle.sync_plan.proofs.Rising.{precedes_differs}
 use Rattle.job_runs.specs.Courses.{Course}
-use Rattle.job_runs.specs.Writes.{IsForOthers, WroteFor, WroteAll, WroteSome}
+use Rattle.job_runs.specs.Writes.{WroteFor, WroteAll, WroteSome}
 use Rattle.job_writes.specs.Writings.{SideNow, Sources, PutTried, PutSentBy, RemovalTried, RemovalSentBy, AllTried}
 use Rattle.job_traces.specs.Traces.{IsWriteFor, IsFlushed}
-use Rattle.job_traces.proofs.WriteLemmas.{IsOther, IsFresh, IsUnderWay, Tracks, HasActed, IsWritten, fresh_other, fresh_flushed, sends_other, sends_own, flushed}
+use Rattle.job_traces.proofs.WriteLemmas.{IsOther, IsFresh, IsUnderWay, Tracks, IsWritten, fresh_other, fresh_flushed, sends_other, sends_own, flushed}
 use Rattle.job_traces.proofs.StepLemmas.{versions_at, Knows, IsPlanned, Affects, IsPutStep, IsRemovalStep, not_both, copy_affects, over_affects, removal_affects}
 
 put_kind : (side : Side) (st : Step) (c peer : Course) (x : Sources) (rows : List Row) (rules : Rules) (p : Planned) (s t : SideNow) → Knows c peer side x rows rules → IsPlanned c peer side x rows rules p → p.step ≡ st → PutSentBy st side x p s t → Affects c peer side x rows rules p s t × IsPutStep st

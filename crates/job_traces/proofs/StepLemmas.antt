@@ -1,13 +1,9 @@
 -- What the steps of a plan send is for their idents.
-use Rattle.std.proofs.Common.{◌≡◌, ◌⊎◌, inl, inr, ℕ, zero, suc, Bool, true, false, List, [], ◌∷◌, Option, Some, None, option_map, slice_get, refl, sym, ap, ◌∙◌, subst}
+use Rattle.std.proofs.Common.{◌≡◌, inl, inr, ℕ, zero, suc, List, [], ◌∷◌, Option, Some, None, option_map, slice_get, refl, sym, ap, ◌∙◌, subst}
 use Rattle.std.specs.Option.{option_and_then}
-use Rattle.std.specs.Str.{bytes_eq}
-use Rattle.std.proofs.lemmas.Slice.Eq.{bytes_eq-Decides}
-use Rattle.std.specs.List.{AllByRecursion}
 use Rattle.item_text.specs.Items.{ItemValue}
 use Rattle.store_model.specs.Waits.{Change, new_at, over_at, gone_at}
 use Rattle.status_keeper.specs.declared.row.Row.{Row}
-use Rattle.status_keeper.specs.Idents.{Precedes, IsRising}
 use Rattle.sync_plan.specs.declared.report.Side.{Side}
 use Rattle.sync_plan.specs.declared.report.Side.TheVariants.{A, B}
 use Rattle.sync_plan.specs.declared.rules.Rules.{Rules}
@@ -16,19 +12,17 @@ use Rattle.sync_plan.specs.declared.dues.Step.TheVariants as step
 use Rattle.sync_plan.specs.declared.seen.Seen.{Seen}
 use Rattle.sync_plan.specs.declared.seen.Planned.{Planned}
 use Rattle.sync_plan.specs.Merging.{Within}
-use Rattle.sync_plan.specs.Plans.{seen_of, versions_of, IsPlaceOf, IsPlannedFor, planned_idents}
-use Rattle.sync_plan.specs.Verdicts.{Versions, other_side, step_of, due_of}
+use Rattle.sync_plan.specs.Plans.{seen_of, versions_of, IsPlaceOf, IsPlannedFor}
+use Rattle.sync_plan.specs.Verdicts.{Versions, other_side, due_of}
 use Rattle.sync_plan.specs.JobSteps.{on_side, written}
 use Rattle.sync_plan.proofs.Facts.{Fits, verdict_fits}
-use Rattle.sync_plan.proofs.Rising.{precedes_differs}
 use Rattle.side_reads.specs.declared.holding.Holding.{Holding}
 use Rattle.job_runs.specs.Courses.{Course}
 use Rattle.job_runs.specs.Taken.{IsTaken}
 use Rattle.job_runs.specs.Writes.{IsSource}
 use Rattle.job_reads.specs.Readings.{IsReadText}
-use Rattle.job_writes.specs.Writings.{SideNow, Sends, Sources, held_on, place_on, seen_at, text_at, IsSourceAt, CopySent, OverSent, RemovalSent, PutTried, PutSentBy, RemovalTried, RemovalSentBy, AllTried}
+use Rattle.job_writes.specs.Writings.{SideNow, Sends, Sources, held_on, place_on, seen_at, text_at, IsSourceAt, CopySent, OverSent, RemovalSent}
 use Rattle.job_traces.specs.Traces.{Expects, IsSentAs, IsWriteFor}
-use Rattle.job_traces.proofs.WriteLemmas.{IsOther, IsFresh, IsUnderWay, Tracks, fresh_other, sends_other, sends_own}
 
 -- ---- places
 
