@@ -1,6 +1,7 @@
 mod Committing
 mod Lifting
-mod Moving
+pub mod Moving
 mod ReadBack
 mod Rising
+mod Standing
 mod Texts
