@@ -1,5 +1,6 @@
 mod Committing
 mod Lifting
+mod Memory
 pub mod Moving
 mod ReadBack
 mod Rising

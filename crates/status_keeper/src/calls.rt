@@ -2,6 +2,7 @@
 
 ghost use Rattle.std.specs.Prelude.{◌≡◌, ◌≤◌, IfOk, IfErr, OnOk, OnErr};
 ghost use Rattle.outside.specs.Causes.{Rose};
+ghost use Rattle.outside.specs.Files.{Evolves, IsReadOf};
 ghost use Rattle.outside.specs.FolderCalls as folder_calls;
 ghost use Rattle.outside.specs.FolderCalls.{meets};
 ghost use Rattle.status_keeper.specs.Idents.{IsRising};
@@ -57,6 +58,7 @@ pub(crate) fn load_rows<F: Folder>(
     ensures answer { F.tells folder.old → AfterEdits (state_of (F.state folder.old)) (λ m. LoadAnswer m (state_of (F.state folder.new)) result) }
     ensures found { F.tells folder.old → OnOk result (found.new ≡ found_at (state_of (F.state folder.new)).stamp) }
     ensures kept { OnErr result (found.new ≡ found.old) }
+    ensures reads { F.tells folder.old → Evolves (IsReadOf status_file) (F.state folder.old) (F.state folder.new) }
 {
     let read = match folder.read(STATUS_FILE, MAX_STATUS) {
         Ok(read) => read,

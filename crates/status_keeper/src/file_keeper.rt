@@ -55,7 +55,8 @@ impl<F: Folder> FileKeeper<F> {
 
 impl<F: Folder> Keeper for FileKeeper<F> {
     ghost use Rattle.std.specs.Prelude.{None};
-    ghost use Rattle.status_keeper.specs.FileStatus.{state_of, CommitsTo};
+    ghost use Rattle.outside.specs.Files.{Evolves, IsReadOf};
+    ghost use Rattle.status_keeper.specs.FileStatus.{status_file, state_of, CommitsTo};
 
     ghost count = { λ k. F.count k.folder };
 
@@ -68,6 +69,8 @@ impl<F: Folder> Keeper for FileKeeper<F> {
     ghost is_loaded = { λ k. k.loaded };
 
     ghost found = { λ k. k.found };
+
+    ghost loads = { λ old new result. F.tells old.folder → Evolves (IsReadOf status_file) (F.state old.folder) (F.state new.folder) };
 
     ghost commits = { λ old new rows result. CommitsTo (F.tells old.folder) (F.state old.folder) (F.state new.folder) old.found rows result };
 

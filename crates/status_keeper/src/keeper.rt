@@ -29,6 +29,8 @@ pub enum KeeperError {
 /// Keeps the rows of a job between its runs.
 pub trait Keeper {
     ghost use Rattle.std.specs.Prelude.{Option, IsErr, IfErr, OnErr};
+    ghost use Rattle.std.specs.declared.vec.Vec.{Vec};
+    ghost use Rattle.std.specs.declared.alloc.Global.{Global};
     ghost use Rattle.outside.specs.Plans.{Course, GoesBy};
     ghost use Rattle.status_keeper.specs.declared.row.Row.{Row};
     ghost use Rattle.status_keeper.specs.declared.keeper.KeeperError.{KeeperError};
@@ -53,6 +55,9 @@ pub trait Keeper {
     /// The etag of the status as it was loaded or last committed, or None where there was none.
     ghost found: { Self → Option (List ℕ) };
 
+    /// What a load did to what the keeper stands on.
+    ghost loads: { Self → Self → Result (Vec Row Global) KeeperError → Type 0 };
+
     /// What a commit did to what the keeper stands on, exactly.
     ghost commits: { Self → Self → List Row → Result (Unit {0}) KeeperError → Type 0 };
 
@@ -67,8 +72,10 @@ pub trait Keeper {
         ensures refusal { IfErr result IsOfLoad }
         ensures rising { IfOk result (λ rows. IsRising (map (λ r. r.ident) rows.items)) }
         ensures loaded { OnOk result (is_loaded self.new ≡ true) }
+        ensures unloaded { OnErr result (is_loaded self.new ≡ is_loaded self.old) }
         ensures found { tells self.old → OnOk result (found self.new ≡ found_at (state self.new).stamp) }
         ensures still { OnErr result (found self.new ≡ found self.old) }
+        ensures exact { loads self.old self.new result }
         ensures answer { tells self.old → AfterEdits (state self.old) (λ m. LoadAnswer m (state self.new) result) };
 
     /// Keeps these rows in place of those that were loaded.

@@ -4,6 +4,7 @@
 mod calls;
 mod file_keeper;
 mod keeper;
+mod mem_keeper;
 mod name;
 mod reading;
 mod row;
@@ -11,5 +12,6 @@ mod writing;
 
 pub use file_keeper::FileKeeper;
 pub use keeper::{Keeper, KeeperError};
+pub use mem_keeper::MemKeeper;
 pub use name::status_name;
 pub use row::Row;
