@@ -4,5 +4,6 @@ mod Memory
 pub mod Moving
 mod ReadBack
 mod Rising
+mod Spoiling
 mod Standing
 mod Texts
