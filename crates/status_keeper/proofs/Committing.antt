@@ -1,13 +1,13 @@
 -- Each answer of the folder, as an answer of the keeper.
 use Rattle.std.proofs.Common.{◌≡◌, ℕ, ◌<◌, ◌≤◌, Bool, true, false, List, [], length, Option, Some, None, Result, Ok, Err, refl, sym, ap, ◌∙◌, subst, inl, inr, arith}
 use Rattle.std.specs.Prelude.{if◌then◌else◌, nat_lt}
-use Rattle.std.specs.Option.{option_map}
 use Rattle.std.specs.FinMap as fin
+use Rattle.std.proofs.lemmas.Slice.Eq.{bytes_eq-Decides}
 use Rattle.std.specs.declared.vec.Vec.{Vec}
 use Rattle.std.specs.declared.alloc.Global.{Global}
 use Rattle.outside.specs.Etag.{etag}
 use Rattle.outside.proofs.Runs.{Runs-refl, Runs-trans, Runs-weaker, Runs-one}
-use Rattle.outside.proofs.FolderLemmas.{outside_is_making}
+use Rattle.outside.proofs.FolderLemmas.{outside_is_making, IsEmptyWhereAbsent}
 use Rattle.outside.specs.Files as folders
 use Rattle.outside.specs.Files.{FolderState}
 use Rattle.outside.specs.FolderCalls as folder_calls
@@ -20,12 +20,14 @@ use Rattle.outside.specs.declared.folder.FolderError.TheVariants as folder_error
 use Rattle.status_keeper.specs.declared.row.Row.{Row}
 use Rattle.status_keeper.specs.declared.keeper.KeeperError.{KeeperError}
 use Rattle.status_keeper.specs.declared.keeper.KeeperError.TheVariants.{Fault, Moved, Damaged, TooLong, NoMemory}
-use Rattle.status_keeper.specs.Kept.{Kept, KeeperEvent, Edited, Committed, KeeperState, happens, Evolves, IsEdit, IsCommitOf}
-use Rattle.status_keeper.specs.KeeperCalls.{AfterEdits, LoadAnswer, CommitAnswer, KeeperCause}
+use Rattle.status_keeper.specs.Kept.{KeeperEvent, KeeperState, Edited, Toggled, Made, Committed, Spoiled, happens, Evolves, IsEdit, IsMaking, IsCommitOf}
+use Rattle.status_keeper.specs.KeeperCalls.{AfterEdits, AfterPlacing, LoadAnswer, Commits, CommitAnswer, FoundAfter, KeeperCause, found_at, is_as_found}
 use Rattle.status_keeper.specs.Reading.{Gives}
-use Rattle.status_keeper.specs.Status.{max_status, text_of, kept_of, kept_text}
-use Rattle.status_keeper.specs.FileStatus.{status_file, written, state_of, etag_in, is_as_found, AfterMaking, PutAnswer, refusal_of, replaced_of}
-use Rattle.status_keeper.proofs.Lifting.{wrote_step, read_step, making_seen, outside_seen}
+use Rattle.status_keeper.specs.Status.{Kept, max_status, text_of, kept_of, kept_text}
+use Rattle.status_keeper.specs.FileStatus.{status_file, own_write, stamp_in, state_of, is_file_as_found, folder_placed, AfterMaking, PutAnswer, Puts, PutsTo, refusal_of, replaced_of}
+use Rattle.status_keeper.proofs.Lifting.{wrote_status, read_step, making_seen, outside_seen}
+use Rattle.status_keeper.proofs.Moving.{placing_run}
+use Rattle.status_keeper.proofs.Standing.{empty_later, empty_placed, placed_seen, met_seen, stands, placed_made}
 
 -- ---- the meaning of a file
 
@@ -89,22 +91,14 @@ load_some s t bytes result h gives =
       does = given (state_of h.moment) (state_of t) (kept_text bytes.items) result (ap state_of h.does.2 ∙ read_step h.moment status_file bytes.items) (ap kept_of h.does.0 ∙ kept_of-within bytes.items h.does.1) gives;
     }
 
--- the etag of what stands at the end of a reading
-pub found_none : (s t : FolderState) → folder_calls.AfterEdits s (λ m. ReadAnswer m t status_file max_status (Ok None)) → None ≡ etag_in t
-found_none s t h = sym (ap etag_in h.does.0 ∙ ap (option_map etag) h.does.1)
+-- what is found at the end of a reading
+pub found_none : (s t : FolderState) → folder_calls.AfterEdits s (λ m. ReadAnswer m t status_file max_status (Ok None)) → None ≡ found_at (state_of t).stamp
+found_none s t h = sym (ap (λ (x : FolderState). found_at (state_of x).stamp) h.does.0 ∙ stands h.moment None h.does.1)
 
-pub found_some : (s t : FolderState) (bytes : Vec ℕ Global) → folder_calls.AfterEdits s (λ m. ReadAnswer m t status_file max_status (Ok (Some bytes))) → Some (etag bytes.items) ≡ etag_in t
-found_some s t bytes h = sym (ap etag_in h.does.2 ∙ ap (option_map etag) h.does.0)
+pub found_some : (s t : FolderState) (bytes : Vec ℕ Global) → folder_calls.AfterEdits s (λ m. ReadAnswer m t status_file max_status (Ok (Some bytes))) → Some (etag bytes.items) ≡ found_at (state_of t).stamp
+found_some s t bytes h = sym (ap (λ (x : FolderState). found_at (state_of x).stamp) h.does.2 ∙ stands h.moment (Some bytes.items) h.does.0)
 
--- ---- commit
-
-refused_at : (m t : FolderState) (met : Bool) (text : List ℕ) (e : FolderError) → MakeAnswer m t (Err e) → PutAnswer t t met text (Err (refusal_of e))
-refused_at m t met text folder_error.Fault h = inl refl
-refused_at m t met text folder_error.TooLong h = absurd h
-refused_at m t met text folder_error.NoMemory h = refl
-
-pub put_refused : (s t : FolderState) (met : FolderState → Bool) (text : List ℕ) (e : FolderError) (r : KeeperError) → r ≡ refusal_of e → folders.Evolves folders.IsMaking s t → folder_calls.AfterEdits s (λ m. MakeAnswer m t (Err e)) → AfterMaking s (λ m. PutAnswer m t (met m) text (Err r))
-put_refused s t met text e r same run h = record { moment = t; makes = run; does = subst (λ (x : KeeperError). PutAnswer t t (met t) text (Err x)) (sym same) (refused_at h.moment t (met t) text e h.does) }
+-- ---- a conditional write
 
 replaced_at : (m t : FolderState) (expect : Expect) (text : List ℕ) (result : Result Change FolderError) → ReplaceAnswer m t status_file expect text result → PutAnswer m t (meets m status_file expect) text (replaced_of result)
 replaced_at m t expect text (Ok change.Done) h = h
@@ -121,67 +115,124 @@ replaced s t expect text result answer same h =
       does = subst (λ (r : Result (Unit {0}) KeeperError). PutAnswer h.moment t (meets h.moment status_file expect) text r) (sym same) (replaced_at h.moment t expect text result h.does);
     }
 
--- a conditional write of a file that was found
-pub stood_some : (s t : FolderState) (found : Option (List ℕ)) (tag asked : List ℕ) (text : List ℕ) (result : Result (Unit {0}) KeeperError) → found ≡ Some tag → asked ≡ tag → folder_calls.AfterEdits s (λ m. PutAnswer m t (has_tagged m status_file asked) text result) → AfterMaking s (λ m. PutAnswer m t (is_as_found found m) text result)
-stood_some s t found tag asked text result is same h =
-    record {
-      moment = h.moment;
-      makes = Runs-weaker outside_is_making h.edits;
-      does = subst (λ (b : Bool). PutAnswer h.moment t b text result) (ap (has_tagged h.moment status_file) same ∙ sym (ap (λ (o : Option (List ℕ)). is_as_found o h.moment) is)) h.does;
-    }
+-- the run of a call up to its write
+put_run : (found : Option (List ℕ)) (s t : FolderState) (Does : FolderState → Type 0) (h : AfterMaking found s Does) → t ≡ h.moment → folders.Evolves folders.IsMaking s t
+put_run found s t Does h same =
+    subst (λ (x : FolderState). folders.Evolves folders.IsMaking s x) (sym same)
+    (Runs-trans (Runs-weaker outside_is_making h.edits) (Runs-trans (placed_made found h.asked) (Runs-weaker outside_is_making h.later)))
 
--- the making of the folder, and then a conditional write where no file was found
-pub stood_none : (s m t : FolderState) (found : Option (List ℕ)) (text : List ℕ) (result : Result (Unit {0}) KeeperError) → found ≡ None → folders.Evolves folders.IsMaking s m → folder_calls.AfterEdits m (λ x. PutAnswer x t (is_as_found None x) text result) → AfterMaking s (λ x. PutAnswer x t (is_as_found found x) text result)
-stood_none s m t found text result is run h =
-    record {
-      moment = h.moment;
-      makes = Runs-trans run (Runs-weaker outside_is_making h.edits);
-      does = subst (λ (b : Bool). PutAnswer h.moment t b text result) (sym (ap (λ (o : Option (List ℕ)). is_as_found o h.moment) is)) h.does;
-    }
+put_at : (found : Option (List ℕ)) (s t : FolderState) (text : List ℕ) (result : Result (Unit {0}) KeeperError) → AfterMaking found s (λ m. PutAnswer m t (is_file_as_found found m) text result) → PutsTo found s t text result
+put_at found s t text (Ok u) h = h
+put_at found s t text (Err Moved) h = h
+put_at found s t text (Err Fault) h = elim h.does [
+  | inl same ↦ inl (put_run found s t _ h same)
+  | inr acted ↦ inr (record { asked = h.asked; edits = h.edits; moment = h.moment; later = h.later; does = acted })
+]
+put_at found s t text (Err NoMemory) h = put_run found s t _ h h.does
+put_at found s t text (Err TooLong) h = absurd h.does
+put_at found s t text (Err (Damaged k)) h = absurd h.does
+
+-- of a file that was found
+pub put_some : (s t : FolderState) (found : Option (List ℕ)) (tag asked text : List ℕ) (result : Result (Unit {0}) KeeperError) → found ≡ Some tag → asked ≡ tag → folder_calls.AfterEdits s (λ m. PutAnswer m t (has_tagged m status_file asked) text result) → PutsTo found s t text result
+put_some s t found tag asked text result is same h =
+    subst (λ (o : Option (List ℕ)). PutsTo o s t text result) (ap Some same ∙ sym is)
+    (put_at (Some asked) s t text result (record { asked = h.moment; edits = h.edits; moment = h.moment; later = Runs-refl h.moment; does = h.does }))
+
+-- where none was found the folder is made first
+pub put_none : (s x t : FolderState) (found : Option (List ℕ)) (text : List ℕ) (result : Result (Unit {0}) KeeperError) → found ≡ None → folder_calls.AfterEdits s (λ m. MakeAnswer m x (Ok tt)) → folder_calls.AfterEdits x (λ m. PutAnswer m t (is_file_as_found None m) text result) → PutsTo found s t text result
+put_none s x t found text result is makes h =
+    subst (λ (o : Option (List ℕ)). PutsTo o s t text result) (sym is)
+    (put_at None s t text result (record { asked = makes.moment; edits = makes.edits; moment = h.moment; later = subst (λ (y : FolderState). folders.Evolves folders.IsOutside y h.moment) makes.does h.edits; does = h.does }))
+
+refused_at : (found : Option (List ℕ)) (s m t : FolderState) (text : List ℕ) (e : FolderError) → folders.Evolves folders.IsMaking s t → MakeAnswer m t (Err e) → PutsTo found s t text (Err (refusal_of e))
+refused_at found s m t text folder_error.Fault run h = inl run
+refused_at found s m t text folder_error.TooLong run h = absurd h
+refused_at found s m t text folder_error.NoMemory run h = run
+
+pub put_refused : (s t : FolderState) (found : Option (List ℕ)) (text : List ℕ) (e : FolderError) (r : KeeperError) → r ≡ refusal_of e → folders.Evolves folders.IsMaking s t → folder_calls.AfterEdits s (λ m. MakeAnswer m t (Err e)) → PutsTo found s t text (Err r)
+put_refused s t found text e r same run h = subst (λ (x : KeeperError). PutsTo found s t text (Err x)) (sym same) (refused_at found s h.moment t text e run h.does)
 
 -- of another name for the text and the result
-pub put_same : (s t : FolderState) (met : FolderState → Bool) (text other : List ℕ) (result answer : Result (Unit {0}) KeeperError) → text ≡ other → result ≡ answer → AfterMaking s (λ m. PutAnswer m t (met m) text result) → AfterMaking s (λ m. PutAnswer m t (met m) other answer)
-put_same s t met text other result answer same is h =
-    let P : List ℕ → Result (Unit {0}) KeeperError → Type 0 = λ x r. PutAnswer h.moment t (met h.moment) x r in
-    record { moment = h.moment; makes = h.makes; does = subst (λ (r : Result (Unit {0}) KeeperError). P other r) is (subst (λ (x : List ℕ). P x result) same h.does) }
+pub put_same : (s t : FolderState) (found : Option (List ℕ)) (text other : List ℕ) (result answer : Result (Unit {0}) KeeperError) → text ≡ other → result ≡ answer → PutsTo found s t text result → PutsTo found s t other answer
+put_same s t found text other result answer same is h =
+    subst (λ (r : Result (Unit {0}) KeeperError). PutsTo found s t other r) is (subst (λ (x : List ℕ). PutsTo found s t x result) same h)
 
-committed : (m t : FolderState) (text : List ℕ) (rows : List Row) → kept_of (Some text) ≡ Ok rows → t ≡ wrote m status_file (Some text) → state_of t ≡ happens (state_of m) (Committed rows)
-committed m t text rows means same =
-    ap state_of same
-    ∙ wrote_step m status_file (fin.get m.files status_file) (Some text)
-    ∙ ap (λ kept. happens (state_of m) (written kept)) means
+-- ---- a write of the file is a commit
 
-commit_at : (m t : FolderState) (met : Bool) (rows : List Row) (result : Result (Unit {0}) KeeperError) → kept_of (Some (text_of rows)) ≡ Ok rows → PutAnswer m t met (text_of rows) result → CommitAnswer (state_of m) (state_of t) rows result
-commit_at m t met rows (Ok u) means h = committed m t (text_of rows) rows means h.1
-commit_at m t met rows (Err Moved) means h = ap state_of h.1
-commit_at m t met rows (Err Fault) means h = elim h [ inl same ↦ inl (ap state_of same) | inr acted ↦ inr (committed m t (text_of rows) rows means acted.1) ]
-commit_at m t met rows (Err NoMemory) means h = ap state_of h
-commit_at m t met rows (Err TooLong) means h = (ap state_of h.0, h.1)
-commit_at m t met rows (Err (Damaged k)) means h = absurd h
+commits_rows : (rows : List Row) (kept : Kept) → kept ≡ Ok rows → own_write (text_of rows) kept ≡ Committed rows
+commits_rows rows kept means = ap (own_write (text_of rows)) means ∙ ap (λ (b : Bool). if b then Committed rows else Spoiled (Ok rows) (stamp_in true (Some (text_of rows)))) ((bytes_eq-Decides (text_of rows) (text_of rows)).1 refl)
 
--- of another name for the text
-pub commit_answer : (s t : FolderState) (met : FolderState → Bool) (text : List ℕ) (rows : List Row) (result : Result (Unit {0}) KeeperError) → text ≡ text_of rows → length text ≤ max_status → kept_text text ≡ Ok rows → AfterMaking s (λ m. PutAnswer m t (met m) (text_of rows) result) → AfterEdits (state_of s) (λ m. CommitAnswer m (state_of t) rows result)
-commit_answer s t met text rows result same fits means h =
-    record { moment = state_of h.moment; edits = making_seen s h.moment h.makes; does = commit_at h.moment t (met h.moment) rows result (ap (λ (x : List ℕ). kept_of (Some x)) (sym same) ∙ kept_of-within text fits ∙ means) h.does }
+committed : (m t : FolderState) (rows : List Row) → kept_of (Some (text_of rows)) ≡ Ok rows → t ≡ wrote m status_file (Some (text_of rows)) → state_of t ≡ happens (state_of m) (Committed rows)
+committed m t rows means same = ap state_of same ∙ wrote_status m (text_of rows) ∙ ap (happens (state_of m)) (commits_rows rows (kept_of (Some (text_of rows))) means)
+
+-- what is so at the moment of writing
+placing_seen : (found : Option (List ℕ)) (s : FolderState) (D : FolderState → Type 0) (E : KeeperState → Type 0) → IsEmptyWhereAbsent s → ((m : FolderState) → IsEmptyWhereAbsent m → D m → E (state_of m)) → AfterMaking found s D → AfterPlacing found (state_of s) E
+placing_seen found s D E law f h =
+    let at_asked = empty_later s h.asked h.edits law in
+    let at_moment = empty_later (folder_placed found h.asked) h.moment h.later (empty_placed found h.asked at_asked) in
+    record {
+      asked = state_of h.asked;
+      edits = outside_seen s h.asked h.edits;
+      moment = state_of h.moment;
+      later = subst (λ (x : KeeperState). Evolves IsEdit x (state_of h.moment)) (placed_seen found h.asked at_asked) (outside_seen (folder_placed found h.asked) h.moment h.later);
+      does = f h.moment at_moment h.does;
+    }
+
+put_seen : (found : Option (List ℕ)) (m t : FolderState) (rows : List Row) → kept_of (Some (text_of rows)) ≡ Ok rows → IsEmptyWhereAbsent m → Puts found (text_of rows) t m → Commits found rows (state_of t) (state_of m)
+put_seen found m t rows means law h = (sym (met_seen found m law) ∙ h.0, committed m t rows means h.1)
+
+pub commit_answer : (s t : FolderState) (found : Option (List ℕ)) (rows : List Row) (result : Result (Unit {0}) KeeperError) → IsEmptyWhereAbsent s → kept_of (Some (text_of rows)) ≡ Ok rows → PutsTo found s t (text_of rows) result → CommitAnswer found (state_of s) (state_of t) rows result
+commit_answer s t found rows (Ok u) law means h = placing_seen found s (Puts found (text_of rows) t) (Commits found rows (state_of t)) law (λ m at_m does. put_seen found m t rows means at_m does) h
+commit_answer s t found rows (Err Moved) law means h =
+    placing_seen found s (λ m. (is_file_as_found found m ≡ false) × (t ≡ m)) (λ m. (is_as_found found m.stamp ≡ false) × (state_of t ≡ m)) law (λ m at_m does. (sym (met_seen found m at_m) ∙ does.0, ap state_of does.1)) h
+commit_answer s t found rows (Err Fault) law means h = elim h [
+  | inl run ↦ inl (making_seen s t run)
+  | inr acted ↦ inr (placing_seen found s (Puts found (text_of rows) t) (Commits found rows (state_of t)) law (λ m at_m does. put_seen found m t rows means at_m does) acted)
+]
+commit_answer s t found rows (Err NoMemory) law means h = making_seen s t h
+commit_answer s t found rows (Err TooLong) law means h = (outside_seen s t h.0, h.1)
+commit_answer s t found rows (Err (Damaged k)) law means h = absurd h
 
 -- a call that does nothing
-pub nothing_put : (s : FolderState) (met : FolderState → Bool) (text : List ℕ) → AfterMaking s (λ m. PutAnswer m s (met m) text (Err NoMemory))
-nothing_put s met text = record { moment = s; makes = Runs-refl s; does = refl }
+pub nothing_put : (s : FolderState) (found : Option (List ℕ)) (text : List ℕ) → PutsTo found s s text (Err NoMemory)
+nothing_put s found text = Runs-refl s
 
-pub nothing_put_long : (s : FolderState) (met : FolderState → Bool) (text : List ℕ) → max_status < length text → AfterMaking s (λ m. PutAnswer m s (met m) text (Err TooLong))
-nothing_put_long s met text long = record { moment = s; makes = Runs-refl s; does = (refl, long) }
+pub nothing_put_long : (s : FolderState) (found : Option (List ℕ)) (text : List ℕ) → max_status < length text → PutsTo found s s text (Err TooLong)
+nothing_put_long s found text long = (Runs-refl s, long)
 
-pub nothing_kept : (s : KeeperState) (rows : List Row) → AfterEdits s (λ m. CommitAnswer m s rows (Err NoMemory))
-nothing_kept s rows = record { moment = s; edits = Runs-refl s; does = refl }
+pub nothing_kept : (s : KeeperState) (found : Option (List ℕ)) (rows : List Row) → CommitAnswer found s s rows (Err NoMemory)
+nothing_kept s found rows = Runs-refl s
 
-pub nothing_kept_long : (s : KeeperState) (rows : List Row) → max_status < length (text_of rows) → AfterEdits s (λ m. CommitAnswer m s rows (Err TooLong))
-nothing_kept_long s rows long = record { moment = s; edits = Runs-refl s; does = (refl, long) }
+pub nothing_kept_long : (s : KeeperState) (found : Option (List ℕ)) (rows : List Row) → max_status < length (text_of rows) → CommitAnswer found s s rows (Err TooLong)
+nothing_kept_long s found rows long = (Runs-refl s, long)
+
+-- what the text means
+pub means_rows_of : (text : List ℕ) (rows : List Row) → text ≡ text_of rows → length text ≤ max_status → kept_text text ≡ Ok rows → kept_of (Some (text_of rows)) ≡ Ok rows
+means_rows_of text rows same fits means = ap (λ (x : List ℕ). kept_of (Some x)) (sym same) ∙ kept_of-within text fits ∙ means
+
+-- what is found after an error that changed nothing
+pub found_still : (before now : Option (List ℕ)) (rows : List Row) (error : KeeperError) → now ≡ before → FoundAfter before now rows (Err error)
+found_still before now rows Fault h = inl h
+found_still before now rows Moved h = h
+found_still before now rows TooLong h = h
+found_still before now rows NoMemory h = h
+found_still before now rows (Damaged k) h = h
 
 -- ---- the runs of the calls
 
 edit_is_commit : (rows : List Row) (e : KeeperEvent) → IsEdit e → IsCommitOf rows e
-edit_is_commit rows (Edited kept) h = tt
+edit_is_commit rows (Edited kept stamp) h = tt
+edit_is_commit rows Toggled h = tt
+edit_is_commit rows Made h = tt
 edit_is_commit rows (Committed committed) h = absurd h
+edit_is_commit rows (Spoiled kept stamp) h = h
+
+making_is_commit : (rows : List Row) (e : KeeperEvent) → IsMaking e → IsCommitOf rows e
+making_is_commit rows (Edited kept stamp) h = tt
+making_is_commit rows Toggled h = tt
+making_is_commit rows Made h = tt
+making_is_commit rows (Committed committed) h = absurd h
+making_is_commit rows (Spoiled kept stamp) h = h
 
 along : {Kind : KeeperEvent → Type 0} (s m t : KeeperState) → Evolves Kind s m → t ≡ m → Evolves Kind s t
 along {Kind} s m t run same = subst (λ (x : KeeperState). Evolves Kind s x) (sym same) run
@@ -197,19 +248,17 @@ loaded_at s m t (Err NoMemory) run h = along s m t run h
 pub load_run : (s t : KeeperState) (result : Result (Vec Row Global) KeeperError) → AfterEdits s (λ m. LoadAnswer m t result) → Evolves IsEdit s t
 load_run s t result h = loaded_at s h.moment t result h.edits h.does
 
-one_commit : (s m t : KeeperState) (rows : List Row) → Evolves (IsCommitOf rows) s m → t ≡ happens m (Committed rows) → Evolves (IsCommitOf rows) s t
-one_commit s m t rows run acted = along s (happens m (Committed rows)) t (Runs-trans run (Runs-one m (Committed rows) refl tt)) acted
+one_commit : (found : Option (List ℕ)) (s t : KeeperState) (rows : List Row) → AfterPlacing found s (Commits found rows t) → Evolves (IsCommitOf rows) s t
+one_commit found s t rows h =
+    along s (happens h.moment (Committed rows)) t (Runs-trans (Runs-weaker (making_is_commit rows) (placing_run found s _ h)) (Runs-one h.moment (Committed rows) refl tt)) h.does.1
 
-committed_at : (s m t : KeeperState) (rows : List Row) (result : Result (Unit {0}) KeeperError) → Evolves (IsCommitOf rows) s m → CommitAnswer m t rows result → Evolves (IsCommitOf rows) s t
-committed_at s m t rows (Ok u) run h = one_commit s m t rows run h
-committed_at s m t rows (Err Fault) run h = elim h [ inl same ↦ along s m t run same | inr acted ↦ one_commit s m t rows run acted ]
-committed_at s m t rows (Err Moved) run h = along s m t run h
-committed_at s m t rows (Err TooLong) run h = along s m t run h.0
-committed_at s m t rows (Err NoMemory) run h = along s m t run h
-committed_at s m t rows (Err (Damaged k)) run h = absurd h
-
-pub commit_run : (s t : KeeperState) (rows : List Row) (result : Result (Unit {0}) KeeperError) → AfterEdits s (λ m. CommitAnswer m t rows result) → Evolves (IsCommitOf rows) s t
-commit_run s t rows result h = committed_at s h.moment t rows result (Runs-weaker (edit_is_commit rows) h.edits) h.does
+pub commit_run : (found : Option (List ℕ)) (s t : KeeperState) (rows : List Row) (result : Result (Unit {0}) KeeperError) → CommitAnswer found s t rows result → Evolves (IsCommitOf rows) s t
+commit_run found s t rows (Ok u) h = one_commit found s t rows h
+commit_run found s t rows (Err Fault) h = elim h [ inl run ↦ Runs-weaker (making_is_commit rows) run | inr acted ↦ one_commit found s t rows acted ]
+commit_run found s t rows (Err Moved) h = along s h.moment t (Runs-weaker (making_is_commit rows) (placing_run found s _ h)) h.does.1
+commit_run found s t rows (Err TooLong) h = Runs-weaker (edit_is_commit rows) h.0
+commit_run found s t rows (Err NoMemory) h = Runs-weaker (making_is_commit rows) h
+commit_run found s t rows (Err (Damaged k)) h = absurd h
 
 -- a refusal and its cause
 pub refused_cause : (rose : Type 0) (e : FolderError) → FolderCause rose e → KeeperCause rose (refusal_of e)

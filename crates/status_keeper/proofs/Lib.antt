@@ -1,6 +1,9 @@
 mod Committing
 mod Lifting
-mod Moving
+mod Memory
+pub mod Moving
 mod ReadBack
 mod Rising
+mod Spoiling
+mod Standing
 mod Texts

@@ -10,9 +10,8 @@ use Rattle.serde_json.specs.declared.value.Value.{Value}
 use Rattle.status_keeper.specs.declared.row.Row.{Row}
 use Rattle.status_keeper.specs.declared.keeper.KeeperError.{KeeperError}
 use Rattle.status_keeper.specs.declared.keeper.KeeperError.TheVariants.{Damaged}
-use Rattle.status_keeper.specs.Kept.{Kept}
 use Rattle.status_keeper.specs.Reading.{FpReads}
-use Rattle.status_keeper.specs.Status.{null_or, row_data, rows_data, status_data, text_at, row_from, status_rows, row_or_bad, next_number, with_row, rows_from, kept_members, kept_data, kept_text}
+use Rattle.status_keeper.specs.Status.{Kept, null_or, row_data, rows_data, status_data, text_at, row_from, status_rows, row_or_bad, next_number, with_row, rows_from, kept_members, kept_data, kept_text}
 
 -- a row has five parts
 pub not_five : (ident : List ℕ) (vs : List Value) → (length vs ≡ 5 → ⊥) → row_from ident (array (items_view vs)) ≡ None

@@ -2,6 +2,7 @@ pub mod FileStatus
 pub mod Idents
 pub mod KeeperCalls
 pub mod Kept
+pub mod MemStatus
 pub mod Reading
 pub mod Rows
 pub mod Status

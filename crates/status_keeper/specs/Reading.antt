@@ -6,8 +6,7 @@ use Rattle.status_keeper.specs.declared.row.Row.{Row}
 use Rattle.status_keeper.specs.declared.keeper.KeeperError.{KeeperError}
 use Rattle.status_keeper.specs.declared.keeper.KeeperError.TheVariants.{Fault, Moved, Damaged, TooLong, NoMemory}
 use Rattle.hex.specs.Hex.{encode_lower}
-use Rattle.status_keeper.specs.Kept.{Kept}
-use Rattle.status_keeper.specs.Status.{fp_of}
+use Rattle.status_keeper.specs.Status.{Kept, fp_of}
 
 abbrev pub Gives : Kept → Result (Vec Row Global) KeeperError → Type 0
 Gives kept (Ok rows) = kept ≡ Ok rows.items

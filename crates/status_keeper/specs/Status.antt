@@ -9,8 +9,12 @@ use Rattle.serde_json.specs.Read.{read}
 use Rattle.serde_json.specs.Written.{compact_text}
 use Rattle.item_text.specs.declared.fp.Fp.{Fp}
 use Rattle.status_keeper.specs.declared.row.Row.{Row}
+use Rattle.status_keeper.specs.declared.keeper.KeeperError.{KeeperError}
 use Rattle.status_keeper.specs.declared.keeper.KeeperError.TheVariants.{Damaged, TooLong}
-use Rattle.status_keeper.specs.Kept.{Kept}
+
+-- what a load meets: rows, or the refusal `Damaged` or `TooLong`
+abbrev pub Kept : Type 0
+Kept = Result (List Row) KeeperError
 
 -- ---- what is written
 

@@ -1,16 +1,15 @@
 //! What a keeper's calls do with its folder.
 
-ghost use Rattle.std.specs.Prelude.{◌≡◌, ◌≤◌, length, Some, Err, IfOk, IfErr, OnOk, OnErr};
+ghost use Rattle.std.specs.Prelude.{◌≡◌, ◌≤◌, IfOk, IfErr, OnOk, OnErr};
 ghost use Rattle.outside.specs.Causes.{Rose};
-ghost use Rattle.outside.specs.Etag.{etag};
+ghost use Rattle.outside.specs.Files.{Evolves, IsReadOf};
 ghost use Rattle.outside.specs.FolderCalls as folder_calls;
 ghost use Rattle.outside.specs.FolderCalls.{meets};
-ghost use Rattle.status_keeper.specs.declared.keeper.KeeperError.TheVariants.{Moved as is_moved};
 ghost use Rattle.status_keeper.specs.Idents.{IsRising};
-ghost use Rattle.status_keeper.specs.KeeperCalls.{AfterEdits, WasEdited, KeeperCause, LoadAnswer, CommitAnswer, IsOfLoad, IsOfCommit};
+ghost use Rattle.status_keeper.specs.KeeperCalls.{AfterEdits, KeeperCause, LoadAnswer, CommitAnswer, FoundAfter, found_at, IsOfLoad, IsOfCommit};
 ghost use Rattle.status_keeper.specs.Rows.{row_idents};
-ghost use Rattle.status_keeper.specs.Status.{max_status, text_of, kept_text};
-ghost use Rattle.status_keeper.specs.FileStatus.{status_file, state_of, etag_in, is_as_found, AfterMaking, PutAnswer, IsWithin, CommitsTo, refusal_of, moved_of};
+ghost use Rattle.status_keeper.specs.Status.{text_of};
+ghost use Rattle.status_keeper.specs.FileStatus.{status_file, state_of, PutAnswer, PutsTo, IsWithin, refusal_of, moved_of};
 
 use crate::keeper::KeeperError;
 use crate::reading::read_status;
@@ -57,8 +56,9 @@ pub(crate) fn load_rows<F: Folder>(
     ensures refusal { IfErr result IsOfLoad }
     ensures rising { IfOk result (λ rows. IsRising (row_idents rows.items)) }
     ensures answer { F.tells folder.old → AfterEdits (state_of (F.state folder.old)) (λ m. LoadAnswer m (state_of (F.state folder.new)) result) }
-    ensures found { F.tells folder.old → OnOk result (found.new ≡ etag_in (F.state folder.new)) }
+    ensures found { F.tells folder.old → OnOk result (found.new ≡ found_at (state_of (F.state folder.new)).stamp) }
     ensures kept { OnErr result (found.new ≡ found.old) }
+    ensures reads { F.tells folder.old → Evolves (IsReadOf status_file) (F.state folder.old) (F.state folder.new) }
 {
     let read = match folder.read(STATUS_FILE, MAX_STATUS) {
         Ok(read) => read,
@@ -103,8 +103,7 @@ fn put_file<F: Folder>(folder: &mut F, found: &Option<Text>, text: &[u8]) -> Res
     ensures told { F.tells folder.old → F.tells folder.new }
     ensures cause { IfErr result (KeeperCause (Rose (F.count folder.old) (F.count folder.new))) }
     ensures refusal { IfErr result IsOfCommit }
-    ensures answer { F.tells folder.old → AfterMaking (F.state folder.old) (λ m. PutAnswer m (F.state folder.new) (is_as_found found.now m) text.now result) }
-    ensures moved { F.tells folder.old → found.now ≡ etag_in (F.state folder.old) → result ≡ Err is_moved → WasEdited (state_of (F.state folder.old)) (state_of (F.state folder.new)) }
+    ensures answer { F.tells folder.old → PutsTo found.now (F.state folder.old) (F.state folder.new) text.now result }
 {
     match found {
         Some(tag) => replace_file(folder, Expect::Etag(tag.as_str()), text),
@@ -127,13 +126,10 @@ pub(crate) fn commit_rows<F: Folder>(
     ensures told { F.tells folder.old → F.tells folder.new }
     ensures cause { IfErr result (KeeperCause (Rose (F.count folder.old) (F.count folder.new))) }
     ensures refusal { IfErr result IsOfCommit }
-    ensures put { F.tells folder.old → AfterMaking (F.state folder.old) (λ m. PutAnswer m (F.state folder.new) (is_as_found found.old m) (text_of rows.now) result) }
-    ensures answer { F.tells folder.old → AfterEdits (state_of (F.state folder.old)) (λ m. CommitAnswer m (state_of (F.state folder.new)) rows.now result) }
+    ensures put { F.tells folder.old → PutsTo found.old (F.state folder.old) (F.state folder.new) (text_of rows.now) result }
+    ensures answer { F.tells folder.old → CommitAnswer found.old (state_of (F.state folder.old)) (state_of (F.state folder.new)) rows.now result }
     ensures within { IsWithin rows.now result }
-    ensures moved { F.tells folder.old → found.old ≡ etag_in (F.state folder.old) → result ≡ Err is_moved → WasEdited (state_of (F.state folder.old)) (state_of (F.state folder.new)) }
-    ensures current { F.tells folder.old → OnOk result (found.new ≡ etag_in (F.state folder.new)) }
-    ensures found { OnOk result (found.new ≡ Some (etag (text_of rows.now))) }
-    ensures kept { OnErr result (found.new ≡ found.old) }
+    ensures found { FoundAfter found.old found.new rows.now result }
 {
     let Ok(text) = write_status(alloc, rows) else {
         return Err(KeeperError::NoMemory);

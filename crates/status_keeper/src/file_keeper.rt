@@ -54,9 +54,13 @@ impl<F: Folder> FileKeeper<F> {
 }
 
 impl<F: Folder> Keeper for FileKeeper<F> {
-    ghost use Rattle.status_keeper.specs.FileStatus.{state_of, etag_in, CommitsTo};
+    ghost use Rattle.std.specs.Prelude.{None};
+    ghost use Rattle.outside.specs.Files.{Evolves, IsReadOf};
+    ghost use Rattle.status_keeper.specs.FileStatus.{status_file, state_of, CommitsTo};
 
     ghost count = { λ k. F.count k.folder };
+
+    ghost course = { λ _. None };
 
     ghost tells = { λ k. F.tells k.folder };
 
@@ -64,7 +68,9 @@ impl<F: Folder> Keeper for FileKeeper<F> {
 
     ghost is_loaded = { λ k. k.loaded };
 
-    ghost is_current = { λ k. k.found ≡ etag_in (F.state k.folder) };
+    ghost found = { λ k. k.found };
+
+    ghost loads = { λ old new result. F.tells old.folder → Evolves (IsReadOf status_file) (F.state old.folder) (F.state new.folder) };
 
     ghost commits = { λ old new rows result. CommitsTo (F.tells old.folder) (F.state old.folder) (F.state new.folder) old.found rows result };
 

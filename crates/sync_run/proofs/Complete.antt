@@ -1,5 +1,5 @@
 -- A quiet run of a ready job is clean, or memory ran out.
-use Rattle.std.proofs.Common.{◌≡◌, ◌≢◌, ◌≤◌, ◌<◌, ◌+◌, ◌⊎◌, inl, inr, ℕ, Bool, true, false, cond, List, [], ◌∷◌, Option, Some, None, ◌||◌, Contains, map, option_map, length, Result, Ok, Err, refl, sym, ◌∙◌, ap, subst, arith}
+use Rattle.std.proofs.Common.{◌≡◌, ◌≢◌, ◌≤◌, ◌+◌, ◌⊎◌, inl, inr, ℕ, Bool, true, false, cond, List, [], ◌∷◌, Option, Some, None, ◌||◌, Contains, map, option_map, length, Ok, Err, refl, sym, ◌∙◌, ap, subst, arith}
 use Rattle.std.specs.Result.{result_ok}
 use Rattle.std.specs.List.{AllByRecursion, list_all}
 use Rattle.std.specs.Str.{bytes_eq}
@@ -8,7 +8,7 @@ use Rattle.std.proofs.lemmas.Bool.{false≢true}
 use Rattle.std.proofs.lemmas.Slice.Eq.{bytes_eq-Decides}
 use Rattle.std.proofs.lemmas.List.Elements.{All-from_recursion, All-contains, Contains-append_right}
 use Rattle.outside.specs.Runs.{Leads, Runs, Anything}
-use Rattle.outside.proofs.Runs.{Runs-refl, Runs-trans, Runs-weaker, Runs-one, Runs-both}
+use Rattle.outside.proofs.Runs.{Runs-trans, Runs-weaker, Runs-one, Runs-both}
 use Rattle.item_text.specs.Items.{ItemValue, item_of, read_item}
 use Rattle.item_text.specs.declared.item.ItemError.{ItemError}
 use Rattle.store_model.specs.declared.event.Held.{Held}
@@ -17,9 +17,9 @@ use Rattle.store_model.specs.declared.event.StoreEvent.TheVariants.{Edited, Togg
 use Rattle.store_model.specs.declared.store.Fetched.{Fetched}
 use Rattle.store_model.specs.declared.store.StoreError.{StoreError}
 use Rattle.store_model.specs.declared.store.StoreError.TheVariants as store
-use Rattle.store_model.specs.Sides.{Content, SideState, put_held, happens, IsTrueEvent, Evolves, IsOutside, IsNoWrite, Since, Sometime, WasEdited, HoldsAt, IsTextOf, IsNotOf, IsUntouching, HasNone, Lacks, IsNotWriteOf, WritesOne, WritesAtMostOne}
+use Rattle.store_model.specs.Sides.{Content, SideState, happens, IsTrueEvent, Evolves, IsOutside, IsNoWrite, Since, WasEdited, IsTextOf, IsNotOf, IsUntouching, HasNone, IsNotWriteOf, WritesAtMostOne}
 use Rattle.store_model.specs.StoreCalls.{entry_of, is_short, IsListing, HasFault, WasFetched}
-use Rattle.store_model.proofs.Moments.{Evolves-refl, Evolves-trans, Evolves-weaker, Since-from_evolves}
+use Rattle.store_model.proofs.Moments.{Evolves-trans, Evolves-weaker, Since-from_evolves}
 use Rattle.store_model.proofs.Lacks.{side_keeps, kind_at, Evolves-first, Evolves-rest, Lacks-none, get-put_held}
 use Rattle.store_model.proofs.Known.{Holds_same, same_or_edited}
 use Rattle.status_keeper.specs.declared.row.Row.{Row}
@@ -27,9 +27,8 @@ use Rattle.status_keeper.specs.declared.keeper.KeeperError.{KeeperError}
 use Rattle.status_keeper.specs.declared.keeper.KeeperError.TheVariants as keeper
 use Rattle.status_keeper.specs.Kept as status
 use Rattle.status_keeper.specs.Kept.{KeeperEvent}
-use Rattle.status_keeper.specs.KeeperCalls as status_calls
-use Rattle.status_keeper.specs.Rows.{row_of, RowStep}
-use Rattle.sync_plan.specs.Table.{Versions, Due, Gone, At, Unsettled, Keep, CopyTo, RemoveFrom, Verdict, verdict, differing, lone, by_sides, table, is_run, is_built}
+use Rattle.status_keeper.specs.Rows.{row_of}
+use Rattle.sync_plan.specs.Table.{Versions, Due, Gone, At, Keep, CopyTo, RemoveFrom, verdict, differing, lone, by_sides, table, is_run, is_built}
 use Rattle.sync_plan.specs.declared.report.Side.{Side}
 use Rattle.sync_plan.specs.declared.report.Side.TheVariants.{A, B}
 use Rattle.sync_plan.specs.declared.report.What.{What}
@@ -39,12 +38,12 @@ use Rattle.sync_plan.specs.declared.report.Refusal.{Refusal}
 use Rattle.sync_plan.specs.declared.report.Refusal.TheVariants.{SameLocation, Status, Storage, SameIdent, NotBuilt}
 use Rattle.sync_plan.specs.declared.report.JobEnd.{JobEnd}
 use Rattle.sync_plan.specs.declared.report.JobEnd.TheVariants.{Synced, Refused, NotCommitted, NoMemory}
-use Rattle.sync_run.specs.Ends.{faults_told, fault_lines, lines_of, line_in, fault_of, keeper_fault, status_fault, IsUnloaded}
-use Rattle.sync_run.specs.Reads.{IsTrueLoad, IsStanding, IsShown, GotFault}
+use Rattle.sync_run.specs.Ends.{fault_lines, lines_of, line_in, fault_of, keeper_fault, IsUnloaded}
+use Rattle.sync_run.specs.Reads.{IsTrueLoad, IsStanding, IsShown}
 use Rattle.sync_run.specs.Steps.{HasCause, HasLine}
-use Rattle.sync_run.specs.Plans.{hrefs_of, FoundAs, Seen, IsFirstTwin, IsPlanEnd}
-use Rattle.sync_run.specs.Jobs.{JobRun, IsLoaded, IsMadeRow, IsLeft, IsGone, StandsAt, WasReadAs, WasReadSo, IsTrueRefusal, StatusEnd, IsUncommitted, Holds, OwnWrite, IsCopyDue}
-use Rattle.sync_run.specs.Ready.{IsAt, held_by, Stand, IsReadySide, IsReadyJob, IsOwn, IsQuiet, FitsStatus, HoldDue, IsClean}
+use Rattle.sync_run.specs.Plans.{hrefs_of, FoundAs, IsFirstTwin}
+use Rattle.sync_run.specs.Jobs.{JobRun, IsMadeRow, IsGone, StandsAt, WasReadAs, IsTrueRefusal, IsUncommitted, Holds, OwnWrite, IsCopyDue}
+use Rattle.sync_run.specs.Ready.{IsAt, held_by, IsReadySide, IsReadyJob, IsOwn, IsQuiet, FitsStatus, HoldDue, IsClean}
 use Rattle.sync_run.proofs.JobLaws.{a_writes_what_is_due, b_writes_what_is_due, made_row_is_held}
 use Rattle.sync_run.proofs.StatusLaws.{unedited, one_commit, kind_of_status}
 use Rattle.sync_run.proofs.Distinct.{precedes_differs}
@@ -259,16 +258,19 @@ no_refusal {a} {a'} {b} {b'} {k} {k'} {lines} rows refusal job ready quiet = at 
 -- ---- nor are its rows left uncommitted
 
 edited_is : (e : KeeperEvent) → status.IsOwn e → status.IsEdit e → ⊥
-edited_is (status.Edited kept) own edit = own
+edited_is (status.Edited kept stamp) own edit = own
+edited_is status.Toggled own edit = own
+edited_is status.Made own edit = edit
 edited_is (status.Committed rows) own edit = edit
+edited_is (status.Spoiled kept stamp) own edit = edit
 
 no_uncommitted : {a a' b b' : SideState} {k k' : status.KeeperState} {lines : List Line} (error : KeeperError) (job : JobRun a a' b b' k k' (NotCommitted error) lines) → status.Evolves status.IsOwn k k' → keeper_fault error ≡ 0 → FitsStatus job.after → ⊥
 no_uncommitted {a} {a'} {b} {b'} {k} {k'} error job own fault fits = at error job.loaded job.after (loaded_is job own) fault fits job.uncommitted
   where
     at : (e : KeeperError) (s : status.KeeperState) (rows : List Row) → s ≡ k → keeper_fault e ≡ 0 → FitsStatus rows → IsUncommitted s k' rows e → ⊥
     at keeper.Moved s rows same fault fits is =
-        let from : status.Evolves status.IsEdit k is.moment = subst (λ (x : status.KeeperState). status.Evolves status.IsEdit x is.moment) same is.from in
-        kind_of_status (status.Edited is.kept) own from tt (Runs-weaker (λ e h. tt) is.until)
+        let from : status.Evolves status.IsMaking k is.moment = subst (λ (x : status.KeeperState). status.Evolves status.IsMaking x is.moment) same is.from in
+        edited_is is.event (kind_of_status is.event own (Runs-weaker (λ e h. tt) from) tt (Runs-weaker (λ e h. tt) is.until)) is.is_edit
     at keeper.TooLong s rows same fault fits is = omega (arith, fits, is)
     at keeper.Fault s rows same fault fits is = absurd (omega (arith, fault))
     at (keeper.Damaged row) s rows same fault fits is = is
@@ -383,7 +385,7 @@ made_is_due {a} {a'} {b} {b'} ident v row job ready_a ready_b quiet_a quiet_b of
 kept_after : {a a' b b' : SideState} {k k' : status.KeeperState} {lines : List Line} (rows : List Row) (job : JobRun a a' b b' k k' Synced lines) → status.Evolves status.IsOwn k k' → k.kept ≡ Ok rows → k'.kept ≡ Ok job.after
 kept_after {a} {a'} {b} {b'} {k} {k'} rows job own kept = elim job.committed [
   | inl none ↦ ap (λ (s : status.KeeperState). s.kept) none.1 ∙ (loaded_kept rows job own kept ∙ ap (λ (l : List Row). Ok l) (sym (job.same none.0 ∙ loaded_rows rows job own kept (λ unloaded. unloaded))))
-  | inr sent ↦ ap (λ (s : status.KeeperState). s.kept) (sent.1).does
+  | inr sent ↦ ap (λ (s : status.KeeperState). s.kept) ((sent.1).does).1
 ]
 
 pub synced_is_clean : {a a' b b' : SideState} {k k' : status.KeeperState} {lines : List Line} (rows : List Row) (job : JobRun a a' b b' k k' Synced lines) → IsReadyJob a b k rows → IsQuiet a a' b b' k k' Synced lines → IsClean a a' b b' rows k' Synced lines

@@ -1,5 +1,5 @@
 -- What one run of one job does to its two sides and its status (this project's own).
-use Rattle.std.specs.Prelude.{◌≡◌, ◌≢◌, ◌<◌, ◌⊎◌, ℕ, length, Bool, true, false, List, [], Option, Some, None, Ok, Err}
+use Rattle.std.specs.Prelude.{◌≡◌, ◌≢◌, ◌<◌, ◌⊎◌, ℕ, length, Bool, true, false, List, [], Option, Some, None, Result, Ok, Err}
 use Rattle.std.specs.List.{AllByRecursion}
 use Rattle.item_text.specs.Items.{ItemValue, item_of}
 use Rattle.store_model.specs.declared.event.Held.{Held}
@@ -78,12 +78,16 @@ pub record IsTrueLine (a read_a b read_b : SideState) (before after : List Row) 
   pub was_due : WasDue a read_a b read_b before line.ident line.what
   pub same_row : row_of line.ident after ≡ row_of line.ident before
 
+-- a commit of these rows over what stood in the status s, which was loaded, answers so
+abbrev pub CommitOver : status.KeeperState → status.KeeperState → List Row → Result (Unit {0}) KeeperError → Type 0
+CommitOver s t rows result = status_calls.CommitAnswer (status_calls.found_at s.stamp) s t rows result
+
 -- what an end says of the status: nothing was sent where the rows are as before, and else one commit of the rows answered so
 abbrev pub StatusEnd : Bool → JobEnd → status.KeeperState → status.KeeperState → List Row → Type 0
-StatusEnd changed Synced s t rows = ((changed ≡ false) × (t ≡ s)) ⊎ ((changed ≡ true) × status_calls.AfterEdits s (λ m. status_calls.CommitAnswer m t rows (Ok tt)))
-StatusEnd changed (NotCommitted error) s t rows = (changed ≡ true) × status_calls.AfterEdits s (λ m. status_calls.CommitAnswer m t rows (Err error))
+StatusEnd changed Synced s t rows = ((changed ≡ false) × (t ≡ s)) ⊎ ((changed ≡ true) × CommitOver s t rows (Ok tt))
+StatusEnd changed (NotCommitted error) s t rows = (changed ≡ true) × CommitOver s t rows (Err error)
 StatusEnd changed (Refused refusal) s t rows = t ≡ s
-StatusEnd changed NoMemory s t rows = (t ≡ s) ⊎ ((changed ≡ true) × status_calls.AfterEdits s (λ m. status_calls.CommitAnswer m t rows (Err keeper.NoMemory)))
+StatusEnd changed NoMemory s t rows = (t ≡ s) ⊎ ((changed ≡ true) × CommitOver s t rows (Err keeper.NoMemory))
 
 -- why rows were not kept: the status was edited from outside since it was loaded, or the text of the rows passes the limit
 abbrev pub IsUncommitted : status.KeeperState → status.KeeperState → List Row → KeeperError → Type 0
@@ -195,15 +199,16 @@ pub record IsCopyDue (ident : List ℕ) (own other : SideState) (rows : List Row
   pub held : Holds ident version other
   pub other_version : IsOther version (row_of ident rows)
 
--- a commit of these rows, after edits from outside
+-- a commit of these rows, after edits from outside and the making of the place, where what stood was what stood in s
 pub record Commits (rows : List Row) (s t : status.KeeperState) : Type 0 where
   pub moment : status.KeeperState
-  pub edits : status.Evolves status.IsEdit s moment
+  pub edits : status.Evolves status.IsMaking s moment
+  pub as_found : status_calls.is_as_found (status_calls.found_at s.stamp) moment.stamp ≡ true
   pub is : t ≡ status.happens moment (status.Committed rows)
 
 -- no commit, or one of rows that differ
 abbrev pub StatusDone : status.KeeperState → status.KeeperState → List Row → List Row → Type 0
-StatusDone s t before after = status.Evolves status.IsEdit s t ⊎ ((after ≢ before) × Commits after s t)
+StatusDone s t before after = status.Evolves status.IsMaking s t ⊎ ((after ≢ before) × Commits after s t)
 
 -- a row that the run made; where no edit from outside touches its ident, both sides hold its version at exit
 pub record IsHeldRow (a a' b b' : SideState) (row : Row) : Type 0 where

@@ -8,7 +8,7 @@ ghost use Rattle.sync_plan.specs.declared.report.Side.{Side};
 ghost use Rattle.status_keeper.specs.Idents.{IsRising};
 ghost use Rattle.status_keeper.specs.Rows.{row_idents};
 ghost use Rattle.status_keeper.specs.Kept.{IsCommitOf};
-ghost use Rattle.status_keeper.specs.KeeperCalls.{KeeperCause};
+ghost use Rattle.status_keeper.specs.KeeperCalls.{KeeperCause, found_at};
 ghost use Rattle.status_keeper.specs.Kept.{Changes as KeeperChanges, Evolves as KeeperEvolves};
 ghost use Rattle.store_model.specs.Sides.{IsAdding, Evolves};
 ghost use Rattle.store_model.specs.StoreCalls.{StoreCause};
@@ -51,11 +51,11 @@ fn commit<K: Keeper>(alloc: Global, keeper: &mut K, outcome: Outcome) -> Report
     requires loaded { K.is_loaded keeper.old ≡ true }
     requires rising { IsRising (row_idents outcome.rows.items) }
     ensures keeper { KeeperChanges K.count K.tells K.state (IsCommitOf outcome.rows.items) keeper.old keeper.new }
-    ensures committed { K.tells keeper.old → StatusEnd outcome.changed result.end (K.state keeper.old) (K.state keeper.new) outcome.rows.items }
+    ensures committed { K.tells keeper.old → K.found keeper.old ≡ found_at (K.state keeper.old).stamp → StatusEnd outcome.changed result.end (K.state keeper.old) (K.state keeper.new) outcome.rows.items }
     ensures lines { LinesAt result.end result.lines.items outcome.lines.items }
     ensures end { IsCausedEnd Never Never (KeeperCause (Rose (K.count keeper.old) (K.count keeper.new))) result.end }
     ensures not_refused { IsRefused result.end → ⊥ }
-    ensures uncommitted { K.tells keeper.old → K.is_current keeper.old → IsUncommittedEnd (K.state keeper.old) (K.state keeper.new) outcome.rows.items result.end }
+    ensures uncommitted { K.tells keeper.old → K.found keeper.old ≡ found_at (K.state keeper.old).stamp → IsUncommittedEnd (K.state keeper.old) (K.state keeper.new) outcome.rows.items result.end }
 {
     let Outcome {
         rows,

@@ -10,7 +10,7 @@ ghost use Rattle.sync_run.specs.Reads.{IsTrueOfStatus, IsStorageEnd, IsShown, Is
 ghost use Rattle.status_keeper.specs.Idents.{IsRising};
 ghost use Rattle.status_keeper.specs.Rows.{row_idents};
 ghost use Rattle.status_keeper.specs.Kept.{IsEdit, Changes as KeeperChanges};
-ghost use Rattle.status_keeper.specs.KeeperCalls.{KeeperCause};
+ghost use Rattle.status_keeper.specs.KeeperCalls.{found_at, KeeperCause};
 
 use status_keeper::{Keeper, KeeperError, Row};
 use std::alloc::{AllocError, Global};
@@ -53,7 +53,7 @@ fn load<K: Keeper>(keeper: &mut K) -> Result<Vec<Row>, JobEnd>
     ensures rows { K.tells keeper.old → IfOk result (λ rows. (K.state keeper.new).kept ≡ Ok rows.items) }
     ensures ordered { IfOk result (λ rows. IsRising (row_idents rows.items)) }
     ensures loaded { OnOk result (K.is_loaded keeper.new ≡ true) }
-    ensures current { K.tells keeper.old → OnOk result (K.is_current keeper.new) }
+    ensures current { K.tells keeper.old → OnOk result (K.found keeper.new ≡ found_at (K.state keeper.new).stamp) }
     ensures unloaded { IfErr result IsUnloaded }
     ensures refused { K.tells keeper.old → IfErr result (IsTrueOfStatus (K.state keeper.new)) }
     ensures early { IfErr result IsEarlyEnd }
@@ -137,7 +137,7 @@ pub fn read_job<A: Store, B: Store, K: Keeper>(
     ensures found_b { B.tells b.old → IfOk result (λ r. AllByRecursion (WasFetched (B.side b.old) (B.side b.new)) r.b.items) }
     ensures rows { K.tells keeper.old → IfOk result (λ r. (K.state keeper.new).kept ≡ Ok r.rows.items) }
     ensures loaded { OnOk result (K.is_loaded keeper.new ≡ true) }
-    ensures current { K.tells keeper.old → OnOk result (K.is_current keeper.new) }
+    ensures current { K.tells keeper.old → OnOk result (K.found keeper.new ≡ found_at (K.state keeper.new).stamp) }
     ensures refused { K.tells keeper.old → IfErr result (IsTrueOfStatus (K.state keeper.new)) }
     ensures ordered { IfOk result (λ r. IsRising (row_idents r.rows.items)) }
     ensures ready_a { OnOk result (IsReady A.waits A.is_listed a.new) }

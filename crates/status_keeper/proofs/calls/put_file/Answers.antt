@@ -1,21 +1,12 @@
-use Rattle.status_keeper.specs.FileStatus.{is_as_found}
-use Rattle.status_keeper.proofs.Committing.{stood_some, stood_none, put_refused}
-use Rattle.status_keeper.proofs.Moving.{moved_some, moved_none}
+use Rattle.status_keeper.proofs.Committing.{put_some, put_none, put_refused}
 use Rattle.status_keeper.proofs.calls.put_file.Goals as goal
 
 pub returns-in-Some-clause-answer : goal.returns-in-Some-clause-answer
-returns-in-Some-clause-answer g c told = stood_some (g.F.Folder.state c.args.folder.now) (g.F.Folder.state c.replace_file.new.folder) c.args.found.now _ c.as_str.result.now c.args.text.now c.replace_file.result c.in-Some.is c.as_str.ensures (c.replace_file.ensures.answer told)
+returns-in-Some-clause-answer g c told = put_some (g.F.Folder.state c.args.folder.now) (g.F.Folder.state c.replace_file.new.folder) c.args.found.now _ c.as_str.result.now c.args.text.now c.replace_file.result c.in-Some.is c.as_str.ensures (c.replace_file.ensures.answer told)
 
 pub returns-in-Ok-clause-answer : goal.returns-in-Ok-clause-answer
 returns-in-Ok-clause-answer g c told =
-    let made = c.make.ensures.changes.told told in
-    stood_none (g.F.Folder.state c.args.folder.now) (g.F.Folder.state c.make.new.self) (g.F.Folder.state c.replace_file-in-Ok.new.folder) c.args.found.now c.args.text.now c.replace_file-in-Ok.result c.in-None.is made.1 (c.replace_file-in-Ok.ensures.answer made.0)
+    put_none (g.F.Folder.state c.args.folder.now) (g.F.Folder.state c.make.new.self) (g.F.Folder.state c.replace_file-in-Ok.new.folder) c.args.found.now c.args.text.now c.replace_file-in-Ok.result c.in-None.is (rw c.in-Ok.is at (c.make.ensures.answer told)) (c.replace_file-in-Ok.ensures.answer (c.make.ensures.changes.told told).0)
 
 pub returns-in-Err-clause-answer : goal.returns-in-Err-clause-answer
-returns-in-Err-clause-answer g c told = put_refused (g.F.Folder.state c.args.folder.now) (g.F.Folder.state c.make.new.self) (is_as_found c.args.found.now) c.args.text.now c.in-Err.error c.refusal.result c.refusal.ensures (c.make.ensures.changes.told told).1 (rw c.in-Err.is at (c.make.ensures.answer told))
-
-pub returns-in-Some-clause-moved : goal.returns-in-Some-clause-moved
-returns-in-Some-clause-moved g c told = moved_some (g.F.Folder.state c.args.folder.now) (g.F.Folder.state c.replace_file.new.folder) c.args.found.now _ c.as_str.result.now c.args.text.now c.replace_file.result (g.met.F.Folder.absent_is_empty c.args.folder.now told) c.in-Some.is c.as_str.ensures (c.replace_file.ensures.answer told)
-
-pub returns-in-Ok-clause-moved : goal.returns-in-Ok-clause-moved
-returns-in-Ok-clause-moved g c told = moved_none (g.F.Folder.state c.args.folder.now) (g.F.Folder.state c.make.new.self) (g.F.Folder.state c.replace_file-in-Ok.new.folder) c.args.found.now c.args.text.now c.replace_file-in-Ok.result c.in-None.is (rw c.in-Ok.is at (c.make.ensures.answer told)) (c.replace_file-in-Ok.ensures.answer (c.make.ensures.changes.told told).0)
+returns-in-Err-clause-answer g c told = put_refused (g.F.Folder.state c.args.folder.now) (g.F.Folder.state c.make.new.self) c.args.found.now c.args.text.now c.in-Err.error c.refusal.result c.refusal.ensures (c.make.ensures.changes.told told).1 (rw c.in-Err.is at (c.make.ensures.answer told))

@@ -1,6 +1,6 @@
 use Rattle.std.proofs.Common.{◌≡◌, false, true, Some, sym, subst}
 use Rattle.serde_json.specs.View.{view, members_view}
-use Rattle.status_keeper.specs.Kept.{Kept}
+use Rattle.status_keeper.specs.Status.{Kept}
 use Rattle.status_keeper.specs.Reading.{Gives}
 use Rattle.status_keeper.proofs.ReadBack.{kept_by, kept_unread}
 use Rattle.status_keeper.proofs.reading.read_status.Goals as goal

@@ -54,7 +54,7 @@ returns-in-Ok-run_steps-clause-job g c a b k =
     (λ same. c.in-Ok-run_steps.ensures.changed same ∙ c.in-Ok-plan.ensures.rows)
     (λ changed same. c.in-Ok-run_steps.ensures.differs changed (same ∙ sym c.in-Ok-plan.ensures.rows))
     c.in-Ok-run_steps.ensures.lines_rise c.in-Ok-run_steps.ensures.lines_of_steps
-    (c.commit.ensures.committed at_k.0) (c.commit.ensures.uncommitted at_k.0 (c.in-Ok.ensures.current k)) c.commit.ensures.lines c.commit.ensures.not_refused
+    (c.commit.ensures.committed at_k.0 (c.in-Ok.ensures.current k)) (c.commit.ensures.uncommitted at_k.0 (c.in-Ok.ensures.current k)) c.commit.ensures.lines c.commit.ensures.not_refused
     (whole_cause A _ _ _ (g.A.Store.taken c.read_job.new.a) outcome.lines.items (c.in-Ok.ensures.known_a a) (Since-from_evolves at_a.1) (Since-from_evolves end_a.1) (c.in-Ok-run_steps.ensures.cause_a at_a.0))
     (whole_cause B _ _ _ (g.B.Store.taken c.read_job.new.b) outcome.lines.items (c.in-Ok.ensures.known_b b) (Since-from_evolves at_b.1) (Since-from_evolves end_b.1) (c.in-Ok-run_steps.ensures.cause_b at_b.0))
 
