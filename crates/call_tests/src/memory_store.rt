@@ -44,13 +44,9 @@ fn store(alloc: Global, waiting: bool, plan: FaultPlan) -> Result<MemStore, Fail
 /// Whether these texts stand at these hrefs, and no others.
 fn holds(store: &MemStore, texts: &[(&str, &str)]) -> bool {
     store.texts().len() == texts.len()
-        && store
-            .texts()
-            .iter()
-            .zip(texts.iter())
-            .all(|((href, found), (name, text))| {
-                href.as_str() == *name && found.as_slice() == text.as_bytes()
-            })
+        && store.texts().iter().zip(texts.iter()).all(|((href, found), (name, text))| {
+            href.as_str() == *name && found.as_slice() == text.as_bytes()
+        })
 }
 
 #[test]
