@@ -5,7 +5,7 @@ mod dir_folder;
 mod disk;
 mod etag;
 mod faults;
-mod file_map;
+pub mod file_map;
 mod folder;
 mod mem_folder;
 mod mem_outfit;

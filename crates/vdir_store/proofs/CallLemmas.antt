@@ -117,7 +117,7 @@ fetch_fault name s t (store_error.BadItem href error) h = h
 fetch_fault name s t store_error.NoMemory h = tt
 
 -- the error that was made of a fault, or want of memory
-fault_made : (m : SideState) (name : List ℕ) (e x : StoreError) → (e ≡ store_error.NoMemory) ⊎ (e ≡ x) → HasFault name x m → HasFault name e m
+pub fault_made : (m : SideState) (name : List ℕ) (e x : StoreError) → (e ≡ store_error.NoMemory) ⊎ (e ≡ x) → HasFault name x m → HasFault name e m
 fault_made m name e x (inl none) h = subst (λ (y : StoreError). HasFault name y m) (sym none) tt
 fault_made m name e x (inr same) h = subst (λ (y : StoreError). HasFault name y m) (sym same) h
 
@@ -145,7 +145,7 @@ unfolding read_item
 too_long_text text h = let t : nat_lt 8388608 (length text) ≡ true = search rules in rw t refl
 
 -- a bad item's fault, as it is answered
-bad_made : (m : SideState) (name : List ℕ) (error : ItemError) (e : StoreError) (held : Held) → IsBadItem name error e → fin.get m.content name ≡ Some held → (error ≢ item_error.NoMemory → read_item held.text ≡ Err error) → HasFault name e m
+pub bad_made : (m : SideState) (name : List ℕ) (error : ItemError) (e : StoreError) (held : Held) → IsBadItem name error e → fin.get m.content name ≡ Some held → (error ≢ item_error.NoMemory → read_item held.text ≡ Err error) → HasFault name e m
 bad_made m name error e held (inl none) there bad = subst (λ (y : StoreError). HasFault name y m) (sym none) tt
 bad_made m name error e held (inr made) there bad = subst (λ (y : StoreError). HasFault name y m) (sym made.1) (refl, (held, there, bad made.0))
 
@@ -179,12 +179,12 @@ seen_read ending name limit s t bytes is h =
 until_end : {s t : SideState} {name bytes : List ℕ} (r : IsSeenRead s t name bytes) → Since (sides.happens r.moment (Read name bytes)) t
 until_end {s} {t} {name} {bytes} r = subst (λ (x : SideState). Since (sides.happens r.moment (Read name bytes)) x) (sym r.same) (Evolves-refl (sides.happens r.moment (Read name bytes)))
 
-at_read : {s t : SideState} {name bytes : List ℕ} (Was : SideState → Type 0) (r : IsSeenRead s t name bytes) → Was r.moment → Sometime Was s t
+pub at_read : {s t : SideState} {name bytes : List ℕ} (Was : SideState → Type 0) (r : IsSeenRead s t name bytes) → Was r.moment → Sometime Was s t
 at_read {s} {t} {name} {bytes} Was r was =
     record { moment = r.moment; from = Since-from_evolves r.before; until = Evolves-trans (Evolves-one r.moment (Read name bytes) tt r.is_true) (until_end r); was = was }
 
 -- what reading answered, where it isn't want of memory
-read_answer : (text : List ℕ) (error : ItemError) → (◌≡◌ {A = Result ItemValue ItemError} (Err error) (Err item_error.NoMemory)) ⊎ (Err error ≡ read_item text) → error ≢ item_error.NoMemory → read_item text ≡ Err error
+pub read_answer : (text : List ℕ) (error : ItemError) → (◌≡◌ {A = Result ItemValue ItemError} (Err error) (Err item_error.NoMemory)) ⊎ (Err error ≡ read_item text) → error ≢ item_error.NoMemory → read_item text ≡ Err error
 read_answer text error (inl none) other = absurd (other cc)
 read_answer text error (inr same) other = sym same
 
@@ -193,7 +193,7 @@ fetch_bad ending name limit s t bytes e error is made answer h =
     let r = seen_read ending name limit s t bytes is h in
     fetch_fault name (side_of ending s) (side_of ending t) e (at_read (HasFault name e) r (bad_made r.moment name error e (held_of bytes.items) made r.there (read_answer bytes.items error answer)))
 
-fetched_at : (s t : SideState) (name bytes : List ℕ) (f : Fetched) → IsSeenRead s t name bytes → f.href ≡ name → f.etag ≡ etag bytes → f.item.text ≡ bytes → item_of f.item.text ≡ Some f.item → WasFetched s t f × (t.reads ≡ s.reads ++ read_of f ∷ [])
+pub fetched_at : (s t : SideState) (name bytes : List ℕ) (f : Fetched) → IsSeenRead s t name bytes → f.href ≡ name → f.etag ≡ etag bytes → f.item.text ≡ bytes → item_of f.item.text ≡ Some f.item → WasFetched s t f × (t.reads ≡ s.reads ++ read_of f ∷ [])
 fetched_at s t name bytes f r href tag text item =
     let stood : fin.get (r.moment).content f.href ≡ Some (record { etag = f.etag; text = f.item.text }) = ap (fin.get (r.moment).content) href ∙ (r.there ∙ λ i. Some (record { etag = sym tag i; text = sym text i })) in (
       record {

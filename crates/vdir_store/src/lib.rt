@@ -5,5 +5,6 @@ mod names;
 mod parts;
 mod vdir;
 
-pub use names::is_ending;
+pub use names::{is_ending, names_of};
+pub use parts::{are_short, bad_item, vanished};
 pub use vdir::VdirStore;

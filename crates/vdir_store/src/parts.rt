@@ -48,7 +48,8 @@ fn is_short(entry: &Entry) -> bool
     entry.href.as_str().len() <= MAX_HREF && entry.etag.as_str().len() <= MAX_ETAG
 }
 
-fn are_short(entries: &[Entry]) -> bool
+/// Whether all entries are within the limits of a listing.
+pub fn are_short(entries: &[Entry]) -> bool
     ensures { result ≡ list_all is_short entries.now }
 {
     entries.iter().all(|entry| is_short(entry))
@@ -96,7 +97,8 @@ pub fn refresh<F: Folder>(
     Ok(entries)
 }
 
-fn vanished(alloc: Global, name: &str) -> StoreError
+/// The error of an href at which nothing stands, or want of memory.
+pub fn vanished(alloc: Global, name: &str) -> StoreError
     ensures { (result ≡ StoreError.NoMemory) ⊎ (result ≡ StoreError.Vanished name.now) }
 {
     match Text::copy_of(alloc, name) {
@@ -105,8 +107,8 @@ fn vanished(alloc: Global, name: &str) -> StoreError
     }
 }
 
-// Want of memory is never wrapped.
-fn bad_item(alloc: Global, name: &str, error: ItemError) -> StoreError
+/// The error of a text that isn't an item's. Want of memory is never wrapped.
+pub fn bad_item(alloc: Global, name: &str, error: ItemError) -> StoreError
     ensures { IsBadItem name.now error result }
 {
     match error {

@@ -1,0 +1,4 @@
+pub mod ContentLemmas
+pub mod FileLemmas
+pub mod DraftLemmas
+pub mod AnswerLemmas
