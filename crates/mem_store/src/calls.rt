@@ -1,6 +1,6 @@
 //! What the store's calls do with what it holds.
 
-ghost use Rattle.std.specs.Prelude.{◌≡◌, ℕ, List, [], ◌∷◌, true, false, IfOk, IfErr, OnOk, option_copied};
+ghost use Rattle.std.specs.Prelude.{◌≡◌, ◌≤◌, ℕ, List, [], ◌∷◌, length, map, true, false, IfOk, IfErr, OnOk, option_copied};
 ghost use Rattle.std.specs.Option.{option_map};
 ghost use Rattle.std.specs.BTreeSet.{contains_text};
 ghost use Rattle.outside.specs.Causes.{Rose};
@@ -30,6 +30,7 @@ pub const ENDING: &str = ".vcf";
 /// The entries of what stands.
 fn listing(shelf: &Shelf) -> Result<Vec<Entry>, StoreError>
     ensures answer { IsListing result (side_of shelf.now) }
+    ensures few { IfOk result (λ entries. length entries.items ≤ MAX_ITEMS) }
     ensures cause { IfErr result (StoreCause ⊥) }
 {
     let entries = shelf.listing()?;
@@ -49,6 +50,7 @@ fn refresh(
     alloc: Global,
 ) -> Result<Vec<Entry>, StoreError>
     ensures answer { IsListing result (side_of shelf.now) }
+    ensures few { IfOk result (λ entries. length entries.items ≤ MAX_ITEMS) }
     ensures cause { IfErr result (StoreCause ⊥) }
     ensures names { TakenByList (contains_text names.old) (contains_text names.new) result }
 {
@@ -68,6 +70,8 @@ pub fn list(
     ensures changes { Changes count_of IsSound desk_side IsOutside desk.old desk.new }
     ensures cause { IfErr result (StoreCause (Rose (count_of desk.old) (count_of desk.new))) }
     ensures answer { IsSound desk.old → Sometime (IsListing result) (desk_side desk.old) (desk_side desk.new) }
+    ensures few { IfOk result (λ entries. length entries.items ≤ MAX_ITEMS) }
+    ensures waiting { waiting_of desk.new ≡ waiting_of desk.old }
     ensures names { TakenByList (contains_text names.old) (contains_text names.new) result }
 {
     match desk.begin() {
@@ -86,6 +90,8 @@ fn fetch(desk: &mut Desk, alloc: Global, name: &str) -> Result<Fetched, StoreErr
     ensures changes { Changes count_of IsSound desk_side (IsGetOf (name.now ∷ [])) desk.old desk.new }
     ensures cause { IfErr result (StoreCause (Rose (count_of desk.old) (count_of desk.new))) }
     ensures answer { IsSound desk.old → FetchAnswer (desk_side desk.old) (desk_side desk.new) name.now result }
+    ensures asked { IfOk result (λ f. f.href ≡ name.now) }
+    ensures waiting { waiting_of desk.new ≡ waiting_of desk.old }
 {
     let bytes = match desk.read(name) {
         Ok(Some(bytes)) => bytes,
@@ -106,6 +112,8 @@ fn fetch_all(desk: &mut Desk, alloc: Global, hrefs: &[Text]) -> Result<Vec<Fetch
     ensures changes { Changes count_of IsSound desk_side (IsGetOf hrefs.now) desk.old desk.new }
     ensures cause { IfErr result (StoreCause (Rose (count_of desk.old) (count_of desk.new))) }
     ensures answer { IsSound desk.old → GetAnswer (λ c. ⊥) (desk_side desk.old) (desk_side desk.new) hrefs.now result }
+    ensures asked { IfOk result (λ fetched. map (λ f. f.href) fetched.items ≡ hrefs.now) }
+    ensures waiting { waiting_of desk.new ≡ waiting_of desk.old }
 {
     let mut fetched = Vec::new(alloc);
     for href in hrefs {
@@ -126,6 +134,8 @@ pub fn get(desk: &mut Desk, alloc: Global, hrefs: &[Text]) -> Result<Vec<Fetched
     ensures changes { Changes count_of IsSound desk_side (IsGetOf hrefs.now) desk.old desk.new }
     ensures cause { IfErr result (StoreCause (Rose (count_of desk.old) (count_of desk.new))) }
     ensures answer { IsSound desk.old → GetAnswer (λ c. ⊥) (desk_side desk.old) (desk_side desk.new) hrefs.now result }
+    ensures asked { IfOk result (λ fetched. map (λ f. f.href) fetched.items ≡ hrefs.now) }
+    ensures waiting { waiting_of desk.new ≡ waiting_of desk.old }
 {
     if hrefs.is_empty() {
         return fetch_all(desk, alloc, hrefs);
