@@ -12,7 +12,7 @@ use outside::file_map::{FileMap, collect};
 use outside::{FaultPlan, NoMemory};
 use std::alloc::Global;
 use std::collections::BTreeSet;
-use store_model::{Entry, Fetched, Put, Store, StoreError};
+use store_model::{Entry, Fetched, HookNote, Put, Store, StoreError};
 use values::{Bytes, Text};
 
 /// A collection in memory, which always counts as there.
@@ -123,6 +123,10 @@ impl Store for MemStore {
 
     ghost may_name = { λ m item href. IsFreeName (contains_text m.names) (file_stem item.ident) vcf_ending href };
 
+    ghost notes = { λ m. [] };
+
+    ghost hook_calls = { λ m. [] };
+
     fn faults(&self) -> u64 {
         self.desk.faults()
     }
@@ -166,6 +170,10 @@ impl Store for MemStore {
 
     fn flush(&mut self) -> Result<(), StoreError> {
         flush(&mut self.desk)
+    }
+
+    fn notes(&self) -> &[HookNote] {
+        &[]
     }
 
     ghost new_is_free = { λ m item href may. may.free };

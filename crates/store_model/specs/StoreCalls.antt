@@ -13,6 +13,7 @@ use Rattle.store_model.specs.declared.event.StoreEvent.TheVariants.{Edited, Togg
 use Rattle.store_model.specs.declared.store.Entry.{Entry}
 use Rattle.store_model.specs.declared.store.Fetched.{Fetched}
 use Rattle.store_model.specs.declared.store.Put.{Put}
+use Rattle.store_model.specs.declared.store.HookNote.{HookNote}
 use Rattle.store_model.specs.declared.store.StoreError.{StoreError}
 use Rattle.store_model.specs.declared.store.StoreError.TheVariants.{Fault, Moved, TooLong, TooMany, NotThere, Vanished, BadItem, NoMemory}
 use Rattle.outside.specs.Runs.{ChangesBy}
@@ -184,6 +185,10 @@ FlushAnswer s w t w' (Err e) = (Evolves IsOutside s t ⊎ Flushes w s t) × (w �
 -- whatever it is called for, a store goes on waiting or not waiting, and its flush on being sure or not
 abbrev pub Stays : {X : Type 0} → (X → Bool) → (X → Bool) → X → X → Type 0
 Stays waits is_sure old new = (waits new ≡ waits old) × (is_sure new ≡ is_sure old)
+
+-- no call runs a hook yet: the notes and the hook calls stay as they were
+abbrev pub RunsNoHook : {X : Type 0} → (X → List HookNote) → (X → List (List (List ℕ))) → X → X → Type 0
+RunsNoHook notes hook_calls old new = (notes new ≡ notes old) × (hook_calls new ≡ hook_calls old)
 
 -- what a store recalls from its listing it has recalled before
 abbrev pub RecallsNoMore : {X : Type 0} → (X → Content → Type 0) → X → X → Type 0

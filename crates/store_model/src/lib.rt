@@ -7,4 +7,6 @@ mod store;
 
 pub use event::{Held, StoreEvent};
 pub use names::{file_stem, free_name};
-pub use store::{Entry, Fetched, MAX_ETAG, MAX_HREF, MAX_ITEMS, Put, Store, StoreError};
+pub use store::{
+    Entry, Fetched, HookNote, MAX_ETAG, MAX_HREF, MAX_ITEMS, MetaKey, Put, Store, StoreError,
+};

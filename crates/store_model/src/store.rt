@@ -41,6 +41,21 @@ pub struct Put {
     pub etag: Option<Text>,
 }
 
+/// A property of a collection: its name as it is shown, or its color.
+#[derive(Clone, Copy, Debug, PartialEq, Eq)]
+pub enum MetaKey {
+    Displayname,
+    Color,
+}
+
+/// A hook run that failed: the href that it was run for, and the status with which it ended, or
+/// none where it couldn't be run.
+#[derive(Debug, Drop)]
+pub struct HookNote {
+    pub href: Text,
+    pub status: Option<i32>,
+}
+
 /// Why a store's call failed.
 #[derive(Debug, Drop, Error)]
 pub enum StoreError {
@@ -118,7 +133,8 @@ pub trait Store {
     ghost use Rattle.item_text.specs.Items.{ItemValue};
     ghost use Rattle.store_model.specs.Sides.{Content, SideState, IsOutside, Sometime};
     ghost use Rattle.store_model.specs.Waits.{Change, over_at, gone_at, IsWriteOfThese};
-    ghost use Rattle.store_model.specs.StoreCalls.{StoreCause, Changes, Stays, Keeps, KeepsByList, KeepsByFlush, IsListed, TakenByList, TakenByPut, IsGetOf, GetAnswer, IsPutOf, PutNewAnswer, PutOverAnswer, DropAnswer, FlushAnswer};
+    ghost use Rattle.store_model.specs.declared.store.HookNote.{HookNote};
+    ghost use Rattle.store_model.specs.StoreCalls.{StoreCause, Changes, Stays, RunsNoHook, Keeps, KeepsByList, KeepsByFlush, IsListed, TakenByList, TakenByPut, IsGetOf, GetAnswer, IsPutOf, PutNewAnswer, PutOverAnswer, DropAnswer, FlushAnswer};
 
     /// The count of faults.
     ghost count: { Self → ℕ };
@@ -155,6 +171,12 @@ pub trait Store {
     /// The hrefs that a new item may get.
     ghost may_name: { Self → ItemValue → List ℕ → Type 0 };
 
+    /// The hook runs that failed, the first of them first.
+    ghost notes: { Self → List HookNote };
+
+    /// The argument lists of the hook runs, the first run first.
+    ghost hook_calls: { Self → List (List (List ℕ)) };
+
     /// How often the store's device has failed; a `Fault` comes only where this rose. Takes no
     /// memory.
     fn faults(&self) -> u64
@@ -169,7 +191,8 @@ pub trait Store {
         ensures kind { Stays waits is_sure self.old self.new }
         ensures kept { KeepsByList is_listed recalls self.old self.new result }
         ensures hrefs { TakenByList (taken self.old) (taken self.new) result }
-        ensures same { setting self.new ≡ setting self.old };
+        ensures same { setting self.new ≡ setting self.old }
+        ensures hooks { RunsNoHook notes hook_calls self.old self.new };
 
     /// The items at these hrefs, in their order. The first href that is gone, or whose text isn't
     /// an item's, decides the error: `Vanished` or `BadItem`. No item is read but at these hrefs.
@@ -181,7 +204,8 @@ pub trait Store {
         ensures kind { Stays waits is_sure self.old self.new }
         ensures kept { Keeps is_listed recalls self.old self.new }
         ensures hrefs { (q : List ℕ) → taken self.new q ≡ taken self.old q }
-        ensures same { setting self.new ≡ setting self.old };
+        ensures same { setting self.new ≡ setting self.old }
+        ensures hooks { RunsNoHook notes hook_calls self.old self.new };
 
     /// Stores an item under a new href. `Moved` comes exactly where the chosen name is taken or
     /// the collection is gone.
@@ -193,7 +217,8 @@ pub trait Store {
         ensures kind { Stays waits is_sure self.old self.new }
         ensures kept { Keeps is_listed recalls self.old self.new }
         ensures hrefs { TakenByPut (taken self.old) (taken self.new) result }
-        ensures same { setting self.new ≡ setting self.old };
+        ensures same { setting self.new ≡ setting self.old }
+        ensures hooks { RunsNoHook notes hook_calls self.old self.new };
 
     /// Replaces the item that stands at the href under the etag, and gives the etag of what the
     /// store then holds, where it knows it. `Moved` comes exactly where none stands there so.
@@ -205,7 +230,8 @@ pub trait Store {
         ensures kind { Stays waits is_sure self.old self.new }
         ensures kept { Keeps is_listed recalls self.old self.new }
         ensures hrefs { (q : List ℕ) → taken self.new q ≡ taken self.old q }
-        ensures same { setting self.new ≡ setting self.old };
+        ensures same { setting self.new ≡ setting self.old }
+        ensures hooks { RunsNoHook notes hook_calls self.old self.new };
 
     /// Removes the item that stands at the href under the etag. `Moved` comes exactly where none
     /// stands there so.
@@ -217,7 +243,8 @@ pub trait Store {
         ensures kind { Stays waits is_sure self.old self.new }
         ensures kept { Keeps is_listed recalls self.old self.new }
         ensures hrefs { (q : List ℕ) → taken self.new q ≡ taken self.old q }
-        ensures same { setting self.new ≡ setting self.old };
+        ensures same { setting self.new ≡ setting self.old }
+        ensures hooks { RunsNoHook notes hook_calls self.old self.new };
 
     /// Lets the waiting changes act, all of them or none. Without any it writes nothing. A store
     /// whose flush is sure answers Ok.
@@ -229,7 +256,12 @@ pub trait Store {
         ensures kind { Stays waits is_sure self.old self.new }
         ensures kept { KeepsByFlush is_listed recalls self.old self.new }
         ensures hrefs { (q : List ℕ) → taken self.new q ≡ taken self.old q }
-        ensures same { setting self.new ≡ setting self.old };
+        ensures same { setting self.new ≡ setting self.old }
+        ensures hooks { RunsNoHook notes hook_calls self.old self.new };
+
+    /// The hook runs that failed, the first of them first. Takes no memory.
+    fn notes(&self) -> &[HookNote]
+        ensures { result.now ≡ notes self.now };
 
     /// An href that a new item may get isn't in use, as the store knows it.
     ghost new_is_free: { (s : Self) (item : ItemValue) (href : List ℕ) → may_name s item href → taken s href ≡ false };

@@ -9,7 +9,7 @@ use item_text::Item;
 use outside::Folder;
 use std::alloc::Global;
 use std::collections::BTreeSet;
-use store_model::{Entry, Fetched, Put, Store, StoreError};
+use store_model::{Entry, Fetched, HookNote, Put, Store, StoreError};
 use values::Text;
 
 /// A store of one file per item (the vdir specification's collection, without its metadata).
@@ -99,6 +99,10 @@ impl<F: Folder> Store for VdirStore<F> {
 
     ghost may_name = { λ v item href. IsFreeName (contains_text v.names) (file_stem item.ident) v.ending href };
 
+    ghost notes = { λ v. [] };
+
+    ghost hook_calls = { λ v. [] };
+
     fn faults(&self) -> u64 {
         self.folder.faults()
     }
@@ -154,6 +158,10 @@ impl<F: Folder> Store for VdirStore<F> {
 
     fn flush(&mut self) -> Result<(), StoreError> {
         Ok(())
+    }
+
+    fn notes(&self) -> &[HookNote] {
+        &[]
     }
 
     ghost new_is_free = { λ v item href may. may.free };

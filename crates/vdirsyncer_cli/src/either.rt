@@ -1,7 +1,7 @@
 //! One of two kinds of store, as a store: a job's side may be of either.
 
 use item_text::Item;
-use store_model::{Entry, Fetched, Put, Store, StoreError};
+use store_model::{Entry, Fetched, HookNote, Put, Store, StoreError};
 use values::Text;
 
 /// A store of one kind or of another. Every call is the held store's own.
@@ -36,6 +36,10 @@ impl<X: Store, Y: Store> Store for Either<X, Y> {
     ghost taken = { on_either X.taken Y.taken };
 
     ghost may_name = { on_either X.may_name Y.may_name };
+
+    ghost notes = { on_either X.notes Y.notes };
+
+    ghost hook_calls = { on_either X.hook_calls Y.hook_calls };
 
     fn faults(&self) -> u64 {
         match self {
@@ -88,6 +92,13 @@ impl<X: Store, Y: Store> Store for Either<X, Y> {
         match self {
             Either::Left(x) => x.flush(),
             Either::Right(y) => y.flush(),
+        }
+    }
+
+    fn notes(&self) -> &[HookNote] {
+        match self {
+            Either::Left(x) => x.notes(),
+            Either::Right(y) => y.notes(),
         }
     }
 
