@@ -7,8 +7,6 @@ mod items;
 #[cfg(test)]
 mod memory_folder;
 #[cfg(test)]
-mod memory_store;
-#[cfg(test)]
 mod memory_streams;
 #[cfg(test)]
 mod multistatus_replies;
