@@ -1,5 +1,5 @@
 -- An undisturbed run over a ready job prints nothing and answers 0, or memory ran out.
-use Rattle.std.proofs.Common.{◌≡◌, ◌≢◌, ◌≤◌, ◌<◌, ◌⊎◌, inl, inr, ℕ, true, false, List, [], ◌∷◌, ◌++◌, take, length, Option, Some, None, Result, Ok, Err, refl, sym, ◌∙◌, ap, subst, append-nil, arith}
+use Rattle.std.proofs.Common.{◌≡◌, ◌≢◌, ◌≤◌, ◌<◌, ◌⊎◌, ◌&&◌, ◌||◌, not, if◌then◌else◌, Bool, inl, inr, ℕ, true, false, List, [], ◌∷◌, ◌++◌, take, length, Option, Some, None, Result, Ok, Err, refl, sym, ◌∙◌, ap, subst, append-nil, arith}
 use Rattle.std.specs.FinMap as fin
 use Rattle.outside.specs.Causes.{Rose}
 use Rattle.outside.specs.Runs.{Leads, Runs, Anything}
@@ -26,7 +26,8 @@ use Rattle.vdirsyncer_cli.specs.Places.{Places, place_at}
 use Rattle.vdirsyncer_cli.specs.Printing.{Prints}
 use Rattle.vdirsyncer_cli.specs.Runs.{Ended, Did, ReadsConfig, WordsRun, job_of, out_text, err_text, after_job, job_status, status_of}
 use Rattle.vdirsyncer_cli.specs.Runs.Ended.{WrongWords, HelpAsked, ConfigRefused, OutOfMemory, JobEnded}
-use Rattle.vdirsyncer_cli.specs.Texts.{report_text, ident_line, end_text, exit_of}
+use Rattle.cli_text.specs.Texts.{report_text, ident_line, end_text}
+use Rattle.cli_text.specs.Exits.{is_starved_end, is_synced_end}
 use Rattle.std.specs.List.{flat_map}
 use Rattle.vdirsyncer_cli.specs.Words.{WordsValue, folder_of, name_of}
 use Rattle.vdirsyncer_cli.specs.CleanRuns.{IsInside, IsQuietReading, IsCleanJob, IsUndisturbed, LeavesClean, CompleteRun, SinkIsStill, SinkIsSilent}
@@ -111,6 +112,11 @@ job_is_clean : (between new : Places) (tells tells' : List ℕ → Type 0) (conf
     (report.end ≡ NoMemory) ⊎ IsClean (side_a between (job_of config)) (side_a new (job_of config)) (side_b between (job_of config)) (side_b new (job_of config)) clean.rows (status_of_job new (job_of config)) report.end report.lines.items
 job_is_clean between new tells tells' config report (inl ran) clean = ran.complete clean.told clean.rows clean.ready clean.quiet clean.rows_fit
 job_is_clean between new tells tells' config report (inr same) clean = absurd (clean.apart same.same)
+
+-- the exit status of one job
+abbrev exit_of : JobEnd → List Line → Bool → ℕ
+exit_of end lines write_fault =
+    if is_starved_end end || false then 3 else (if (is_synced_end end lines && true) && not write_fault then 0 else 1)
 
 -- the exit status and the text of such a job
 status_is : (report : Report) (cut : Cut) (result : ℕ) → (cut ≡ WriteFault → ⊥) → result ≡ job_status report cut → (report.end ≡ NoMemory) ⊎ ((report.end ≡ Synced) × (report.lines.items ≡ [])) → (result ≡ 3) ⊎ ((result ≡ 0) × (cut ≡ Whole))

@@ -15,7 +15,7 @@ use Rattle.vdirsyncer_cli.specs.ConfigRead.{ConfigRead, HasEndings}
 use Rattle.vdir_store.specs.Names.{is_ending}
 use Rattle.vdirsyncer_cli.specs.Jobs.{IsTold, JobAt}
 use Rattle.vdirsyncer_cli.specs.declared.config.ConfigError.TheVariants as config_error
-use Rattle.vdirsyncer_cli.specs.Texts.{config_text}
+use Rattle.vdirsyncer_cli.specs.RefusedConfigs.{config_text}
 use Rattle.vdirsyncer_cli.specs.Runs.{job_of, memory_line, WordsRun, Refuses, Finishes, TellsStarved}
 use Rattle.vdirsyncer_cli.specs.Runs.Ended.{ConfigRefused, OutOfMemory, JobEnded}
 use Rattle.vdirsyncer_cli.proofs.PlaceLaws.{same_places}

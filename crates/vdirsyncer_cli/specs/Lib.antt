@@ -5,7 +5,7 @@ pub mod Printing
 pub mod SamePlace
 pub mod Configs
 pub mod Paths
-pub mod Texts
+pub mod RefusedConfigs
 pub mod Words
 pub mod Jobs
 pub mod ConfigRead

@@ -1,5 +1,5 @@
 -- What a run of the program does: its places, what it prints, and its status (this project's own).
-use Rattle.std.specs.Prelude.{◌≡◌, ◌≢◌, ◌⊎◌, ℕ, true, false, List, [], Result, Ok, Err, codes}
+use Rattle.std.specs.Prelude.{◌≡◌, ◌≢◌, ◌⊎◌, ℕ, true, false, List, [], ◌∷◌, Result, Ok, Err, codes}
 use Rattle.outside.specs.Places.{IsSame, StayTold}
 use Rattle.sync_plan.specs.declared.report.Report.{Report}
 use Rattle.vdirsyncer_cli.specs.declared.config.JobConfig.{JobConfig}
@@ -8,11 +8,14 @@ use Rattle.vdirsyncer_cli.specs.declared.config.ConfigError.TheVariants as confi
 use Rattle.vdirsyncer_cli.specs.declared.job.Cut.{Cut}
 use Rattle.vdirsyncer_cli.specs.declared.job.Cut.TheVariants.{Whole, WriteFault, Starved}
 use Rattle.vdirsyncer_cli.specs.declared.job.Job.{Job}
-use Rattle.vdirsyncer_cli.specs.Words.{WordsValue, usage}
+use Rattle.vdirsyncer_cli.specs.Words.{WordsValue}
 use Rattle.vdirsyncer_cli.specs.Words.WordsValue.{help, sync, wrong}
 use Rattle.vdirsyncer_cli.specs.Words.{folder_of, name_of}
 use Rattle.vdirsyncer_cli.specs.Paths.{normalised, status_place}
-use Rattle.vdirsyncer_cli.specs.Texts.{report_text, config_text, exit_status}
+use Rattle.cli_text.specs.Texts.{report_text}
+use Rattle.cli_text.specs.Exits.{exit_status}
+use Rattle.cli_words.specs.Usage.{usage}
+use Rattle.vdirsyncer_cli.specs.RefusedConfigs.{config_text}
 use Rattle.vdirsyncer_cli.specs.Places.{Places}
 use Rattle.vdirsyncer_cli.specs.ConfigRead.{ConfigRead}
 use Rattle.vdirsyncer_cli.specs.Jobs.{JobAt}
@@ -75,8 +78,8 @@ cut_status Starved = 3
 
 -- the exit status of a job's report, by what became of its text
 abbrev pub job_status : Report → Cut → ℕ
-job_status report Whole = exit_status report false
-job_status report WriteFault = exit_status report true
+job_status report Whole = exit_status (report ∷ []) false
+job_status report WriteFault = exit_status (report ∷ []) true
 job_status report Starved = 3
 
 abbrev pub status_of : Ended → Cut → ℕ

@@ -1,5 +1,5 @@
--- What the words of the command ask for, the usage text, and a file's folder and name (this project's own).
-use Rattle.std.specs.Prelude.{◌==◌, ℕ, Bool, List, [], ◌∷◌, ◌++◌, ◌&&◌, if◌then◌else◌, codes}
+-- What the words of the command ask for, and a file's folder and name (this project's own).
+use Rattle.std.specs.Prelude.{◌==◌, ℕ, Bool, List, [], ◌∷◌, ◌&&◌, if◌then◌else◌, codes}
 use Rattle.std.specs.List.{list_any, before_last, after_last}
 use Rattle.std.specs.Str.{bytes_eq}
 use Rattle.vdirsyncer_cli.specs.declared.words.Words.{Words}
@@ -22,9 +22,6 @@ words_of (one ∷ []) = if bytes_eq one (codes "--help") then help else wrong
 words_of (first ∷ second ∷ []) = wrong
 words_of (option ∷ file ∷ command ∷ []) = if bytes_eq option (codes "-c") && bytes_eq command (codes "sync") then sync file else wrong
 words_of (option ∷ file ∷ command ∷ further ∷ rest) = wrong
-
-abbrev pub usage : List ℕ
-usage = codes "usage: vdirsyncer [-c FILE] [-v LEVEL] COMMAND\n" ++ codes "  sync [--force-delete] [--max-workers N] [PAIR[/COLLECTION]]...\n" ++ codes "  metasync [PAIR[/COLLECTION]]...\n" ++ codes "  discover [--no-list] [PAIR]...\n" ++ codes "  repair [--repair-unsafe-uid] STORAGE[/COLLECTION]\n"
 
 abbrev pub is_slash : ℕ → Bool
 is_slash b = b == 47

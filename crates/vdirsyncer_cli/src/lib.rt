@@ -1,4 +1,4 @@
-//! The command line: its words, its configuration, its printed texts, and the top call.
+//! The command line: its words, its configuration, and the top call.
 #![tactic(auto)]
 
 mod config;
@@ -11,7 +11,7 @@ mod opened;
 mod paths;
 mod printing;
 mod reader;
-mod texts;
+mod refused_config;
 mod top_call;
 mod words;
 

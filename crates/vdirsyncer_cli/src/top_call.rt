@@ -14,10 +14,13 @@ use crate::job::Cut;
 use crate::naming::job_of;
 use crate::one_job::run_job;
 use crate::printing::print;
-use crate::texts::{config_text, exit_status, report_text};
-use crate::words::{Words, read_words, usage};
+use crate::refused_config::config_text;
+use crate::words::{Words, read_words};
+use cli_text::{exit_status, report_text};
+use cli_words::usage;
 use outside::{NoMemory, Outfit, Sink, Source};
 use std::alloc::Global;
+use std::slice::from_ref;
 use sync_plan::Report;
 use values::Text;
 
@@ -56,8 +59,8 @@ fn status_of_job(report: &Report, cut: Cut) -> u8
     ensures { result ≡ job_status report.now cut }
 {
     match cut {
-        Cut::Whole => exit_status(report, false),
-        Cut::WriteFault => exit_status(report, true),
+        Cut::Whole => exit_status(from_ref(report), false),
+        Cut::WriteFault => exit_status(from_ref(report), true),
         Cut::Starved => 3,
     }
 }

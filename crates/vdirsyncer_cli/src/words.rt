@@ -2,7 +2,7 @@
 
 ghost use Rattle.std.specs.Prelude.{◌≡◌, true, false, IfSome, IfNone};
 ghost use Rattle.std.specs.List.{list_any, before_last, after_last};
-ghost use Rattle.vdirsyncer_cli.specs.Words.{words_of, usage, value_of, is_slash, folder_of, name_of};
+ghost use Rattle.vdirsyncer_cli.specs.Words.{words_of, value_of, is_slash, folder_of, name_of};
 
 use values::Text;
 
@@ -15,17 +15,6 @@ pub enum Words<'a> {
     Sync { file: &'a str },
     /// None of these: the usage text on the error output.
     Wrong,
-}
-
-/// The usage text.
-pub const USAGE: &str =
-    "usage: vdirsyncer [-c FILE] [-v LEVEL] COMMAND\n  sync [--force-delete] [--max-workers N] [PAIR[/COLLECTION]]...\n  metasync [PAIR[/COLLECTION]]...\n  discover [--no-list] [PAIR]...\n  repair [--repair-unsafe-uid] STORAGE[/COLLECTION]\n";
-
-/// The usage text.
-pub fn usage() -> &'static str
-    ensures { result.now ≡ usage }
-{
-    USAGE
 }
 
 /// Reads the words behind the program's name: `--help` alone, or `-c FILE sync`.

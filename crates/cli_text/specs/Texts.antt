@@ -1,9 +1,7 @@
--- What is printed of a job and of a configuration that can't be read, and the exit status (this project's own).
-use Rattle.std.specs.Prelude.{ℕ, Bool, true, false, List, [], ◌∷◌, ◌++◌, codes}
+-- What is printed of a job (this project's own).
+use Rattle.std.specs.Prelude.{ℕ, List, [], ◌∷◌, ◌++◌, codes}
 use Rattle.std.specs.List.{flat_map}
 use Rattle.std.specs.Fmt.{decimal}
-use Rattle.serde_json.specs.Data.{string}
-use Rattle.serde_json.specs.Written.{compact_text}
 use Rattle.item_text.specs.declared.item.ItemError.{ItemError}
 use Rattle.item_text.specs.declared.item.ItemError.TheVariants as item
 use Rattle.store_model.specs.declared.store.StoreError.{StoreError}
@@ -20,12 +18,7 @@ use Rattle.sync_plan.specs.declared.report.Refusal.TheVariants as refusal
 use Rattle.sync_plan.specs.declared.report.JobEnd.{JobEnd}
 use Rattle.sync_plan.specs.declared.report.JobEnd.TheVariants as ended
 use Rattle.sync_plan.specs.declared.report.Report.{Report}
-use Rattle.vdirsyncer_cli.specs.declared.config.ConfigError.{ConfigError}
-use Rattle.vdirsyncer_cli.specs.declared.config.ConfigError.TheVariants as config
-
--- a name in quotes: a JSON string
-unfoldable pub in_quotes : List ℕ → List ℕ
-in_quotes name = compact_text (string name)
+use Rattle.cli_text.specs.Quoting.{in_quotes}
 
 -- JOB: TEXT, ended by a line feed
 unfoldable pub line_of : List ℕ → List ℕ → List ℕ
@@ -86,23 +79,3 @@ end_text job ended.NoMemory = line_of job (codes "out of memory")
 -- the lines of a report in their order, then its end; nothing for a job that is in sync without lines
 unfoldable pub report_text : List ℕ → Report → List ℕ
 report_text job report = flat_map (ident_line job) report.lines.items ++ end_text job report.end
-
--- why the configuration in a file can't be used
-abbrev pub config_text : List ℕ → ConfigError → List ℕ
-config_text path config.IsNotThere = codes "config: " ++ path ++ codes " is not there\n"
-config_text path config.Fault = codes "config: fault\n"
-config_text path config.TooLong = codes "config: too long\n"
-config_text path (config.BadLine number) = codes "config: bad line " ++ decimal number ++ codes "\n"
-config_text path config.NoMemory = codes "out of memory\n"
-
--- 3 where want of memory ended the job; 0 where it is in sync without lines and all was printed; else 1
-abbrev pub exit_of : JobEnd → List Line → Bool → ℕ
-exit_of ended.Synced [] false = 0
-exit_of ended.Synced [] true = 1
-exit_of ended.Synced (line ∷ lines) write_fault = 1
-exit_of (ended.Refused reason) lines write_fault = 1
-exit_of (ended.NotCommitted error) lines write_fault = 1
-exit_of ended.NoMemory lines write_fault = 3
-
-abbrev pub exit_status : Report → Bool → ℕ
-exit_status report write_fault = exit_of report.end report.lines.items write_fault

@@ -1,26 +1,18 @@
-//! The printed texts, and the exit status.
+//! The printed text of a report.
 
 ghost use Rattle.std.specs.Prelude.{◌≡◌, ◌++◌, codes, string_bytes, IfOk, OnOk};
 ghost use Rattle.std.specs.List.{flat_map};
-ghost use Rattle.vdirsyncer_cli.specs.Texts.{in_quotes, line_of, side_letter, item_error_text, store_error_text, keeper_error_text, what_text, ident_line, refusal_text, end_text, report_text, config_text, exit_status};
+ghost use Rattle.cli_text.specs.Quoting.{in_quotes};
+ghost use Rattle.cli_text.specs.Texts.{line_of, side_letter, item_error_text, store_error_text, keeper_error_text, what_text, ident_line, refusal_text, end_text, report_text};
 
-use crate::config::ConfigError;
+use crate::quoting::in_quotes;
 use item_text::ItemError;
 use outside::NoMemory;
-use serde_json::Value;
 use status_keeper::KeeperError;
 use std::alloc::{AllocError, Global};
 use store_model::StoreError;
 use sync_plan::{JobEnd, Line, Refusal, Report, Side, What};
 use values::Text;
-
-/// A name as a JSON string.
-#[tactic(auto, unfolding(crate::specs::Texts::in_quotes))]
-fn in_quotes(alloc: Global, name: &str) -> Result<String, AllocError>
-    ensures { IfOk result (λ t. string_bytes t ≡ in_quotes name.now) }
-{
-    Value::from(String::from_str(alloc, name)?).to_string(alloc)
-}
 
 fn side_letter(side: Side) -> &'static str
     ensures { result.now ≡ side_letter side }
@@ -275,46 +267,5 @@ pub fn report_text(alloc: Global, job: &str, report: &Report) -> Result<Text, No
     match push_report(alloc, &mut text, job, report) {
         Ok(()) => Ok(Text::of(text)),
         Err(_) => Err(NoMemory),
-    }
-}
-
-fn config_line(alloc: Global, path: &str, error: &ConfigError) -> Result<String, AllocError>
-    ensures { IfOk result (λ t. string_bytes t ≡ config_text path.now error.now) }
-{
-    match error {
-        ConfigError::IsNotThere => format!(in alloc; "config: {path} is not there\n"),
-        ConfigError::Fault => String::from_str(alloc, "config: fault\n"),
-        ConfigError::TooLong => String::from_str(alloc, "config: too long\n"),
-        ConfigError::BadLine(number) => format!(in alloc; "config: bad line {number}\n"),
-        ConfigError::NoMemory => String::from_str(alloc, "out of memory\n"),
-    }
-}
-
-/// What is printed of a configuration that can't be used. The path is the one that was given.
-pub fn config_text(alloc: Global, path: &str, error: &ConfigError) -> Result<Text, NoMemory>
-    ensures { IfOk result (λ t. t ≡ config_text path.now error.now) }
-{
-    match config_line(alloc, path, error) {
-        Ok(text) => Ok(Text::of(text)),
-        Err(_) => Err(NoMemory),
-    }
-}
-
-/// The exit status after a job: 3 where want of memory ended it; 0 where it is in sync without
-/// lines and no write failed; else 1.
-pub fn exit_status(report: &Report, write_fault: bool) -> u8
-    ensures { result ≡ exit_status report.now write_fault }
-{
-    match &report.end {
-        JobEnd::NoMemory => 3,
-        JobEnd::Refused(_) => 1,
-        JobEnd::NotCommitted(_) => 1,
-        JobEnd::Synced => {
-            if report.lines.is_empty() && !write_fault {
-                0
-            } else {
-                1
-            }
-        }
     }
 }
