@@ -1,5 +1,5 @@
 use Rattle.vdirsyncer_cli.proofs.Cuts.{cut_some, cut_none}
-use Rattle.vdirsyncer_cli.proofs.words.cut_path.Goals as goal
+use Rattle.vdirsyncer_cli.proofs.files.cut_path.Goals as goal
 
 pub returns-in-Some-clause-some : goal.returns-in-Some-clause-some
 returns-in-Some-clause-some c =
