@@ -8,7 +8,7 @@ use std::alloc::{AllocError, AllocFailed};
 use thiserror::Error;
 use values::Text;
 
-/// Why the words and a configuration come to no job. None of them is told before a storage is opened.
+/// Why the words and a configuration come to no job. All of them come before a storage is opened.
 #[derive(Debug, Drop, Error)]
 pub enum Refusal {
     /// The configuration, or a storage that the pair names, can't be used.

@@ -1,7 +1,7 @@
 use Rattle.std.proofs.Common.{◌≤◌, length, sym, arith}
 use Rattle.config_model.specs.Meanings as spec
 use Rattle.config_model.proofs.Founds.{part_found, part_missed, parts_found}
-use Rattle.config_model.proofs.meanings.metadata_listed.Goals as goal
+use Rattle.config_model.proofs.pair_rules.metadata_listed.Goals as goal
 
 pub returns-in-None : goal.returns-in-None
 returns-in-None c =
