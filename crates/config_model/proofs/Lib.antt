@@ -3,3 +3,4 @@ pub mod Founds
 pub mod Named
 pub mod Parts
 pub mod Rests
+pub mod ByName

@@ -4,3 +4,4 @@ pub mod Meanings
 pub mod Pairs
 pub mod Reading
 pub mod Storages
+pub mod ByName

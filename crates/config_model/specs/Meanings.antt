@@ -9,7 +9,7 @@ use Rattle.config_model.specs.declared.rules.Partial.{Partial}
 use Rattle.config_model.specs.declared.rules.Partial.TheVariants.{Error, Ignore, Revert}
 use Rattle.config_model.specs.declared.rules.MetaKey.{MetaKey}
 use Rattle.config_model.specs.declared.rules.MetaKey.TheVariants.{Displayname, Color}
-use Rattle.config_model.specs.declared.meanings.Conflict.{Conflict}
+use Rattle.config_model.specs.declared.pair_rules.Conflict.{Conflict}
 use Rattle.config_model.specs.declared.wanted.Wanted.{Wanted}
 use Rattle.config_model.specs.declared.wanted.Wanted.TheVariants.{FromA, FromB, Named}
 use Rattle.config_ini.specs.declared.setting.Setting.{Setting}

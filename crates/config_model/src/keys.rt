@@ -11,10 +11,8 @@ ghost use Rattle.config_model.specs.Meanings as meaning;
 ghost use Rattle.config_model.specs.Keys as spec;
 
 use crate::fields::{Field, Place, field_of};
-use crate::meanings::{
-    Conflict, collections_in, conflict_in, fetch_in, kind_in, metadata_in, no_rule, partial_in,
-    text_in, truth_in,
-};
+use crate::meanings::{collections_in, fetch_in, kind_in, text_in, truth_in};
+use crate::pair_rules::{Conflict, conflict_in, metadata_in, no_rule, partial_in};
 use crate::rules::{MetaKey, Partial};
 use crate::storage_kind::StorageKind;
 use crate::wanted::Wanted;

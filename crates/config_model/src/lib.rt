@@ -1,10 +1,12 @@
 //! What a configuration says: its pairs and storages.
 #![tactic(auto)]
 
+mod by_name;
 mod config;
 mod fields;
 mod keys;
 mod meanings;
+mod pair_rules;
 mod pairs;
 mod reading;
 mod rules;

@@ -1,11 +1,10 @@
 //! A section of a pair.
 
 ghost use Rattle.std.specs.Prelude.{◌≡◌, IfOk};
-ghost use Rattle.std.specs.List.{find};
-ghost use Rattle.std.specs.Option.{option_copied};
 ghost use Rattle.config_ini.specs.Answers.{Gives};
 ghost use Rattle.config_model.specs.Pairs as spec;
 
+use crate::by_name::Storages;
 use crate::config::PairConf;
 use crate::fields::Place;
 use crate::keys::{
@@ -13,58 +12,26 @@ use crate::keys::{
     optional_rule,
 };
 use config_digest::digest_of;
-use config_ini::{ConfigError, Entry, Section, SectionKind};
+use config_ini::{ConfigError, Entry};
 use std::alloc::{AllocError, Global};
 use values::Text;
 
-fn is_storage_of(name: &str, section: &Section) -> bool
-    ensures { result ≡ spec.is_storage_of name.now section.now }
-{
-    match section.title.kind {
-        SectionKind::General => false,
-        SectionKind::Pair => false,
-        SectionKind::Storage => section.title.name.as_str() == name,
-    }
-}
-
-fn section_at<'a>(sections: &'a [Section], name: &str) -> Option<&'a Section>
-    ensures { option_copied result ≡ find (λ s. spec.is_storage_of name.now s) sections.now }
-{
-    sections.iter().find(|section| is_storage_of(name, section))
-}
-
-/// The keys and values of the storage of this name.
-#[tactic(auto, unfolding(crate::specs::Pairs::storage_at))]
-fn storage_at<'a>(sections: &'a [Section], name: &str) -> &'a [Entry]
-    ensures { result.now ≡ spec.storage_at sections.now name.now }
-{
-    match section_at(sections, name) {
-        Some(section) => section.entries.as_slice(),
-        None => &[],
-    }
-}
-
 fn pair_digest(
     alloc: Global,
-    sections: &[Section],
+    sections: &Storages,
     entries: &[Entry],
     a: &Text,
     b: &Text,
 ) -> Result<Text, AllocError>
     ensures { IfOk result (λ digest. digest ≡ spec.pair_digest sections.now entries.now a.now b.now) }
 {
-    digest_of(
-        alloc,
-        entries,
-        storage_at(sections, a.as_str()),
-        storage_at(sections, b.as_str()),
-    )
+    digest_of(alloc, entries, sections.entries(a), sections.entries(b))
 }
 
 #[tactic(auto, unfolding(crate::specs::Pairs::pair_values))]
 fn pair_values(
     alloc: Global,
-    sections: &[Section],
+    sections: &Storages,
     section: &str,
     name: &str,
     entries: &[Entry],
@@ -95,7 +62,7 @@ fn pair_values(
 #[tactic(auto, unfolding(crate::specs::Pairs::pair_of))]
 pub(crate) fn pair_of(
     alloc: Global,
-    sections: &[Section],
+    sections: &Storages,
     section: &str,
     name: &str,
     entries: &[Entry],

@@ -6,6 +6,7 @@ ghost use Rattle.config_ini.specs.Answers.{Gives};
 ghost use Rattle.config_ini.specs.Repeats.{has};
 ghost use Rattle.config_model.specs.Reading as spec;
 
+use crate::by_name::Storages;
 use crate::config::{Config, PairConf, StorageConf};
 use crate::fields::Place;
 use crate::keys::{find_refused, missing, needed_text};
@@ -100,7 +101,7 @@ fn general_of(alloc: Global, section: &str, entries: &[Entry]) -> Result<Text, C
 
 fn part_by(
     alloc: Global,
-    sections: &[Section],
+    sections: &Storages,
     kind: SectionKind,
     section: &str,
     name: &str,
@@ -126,7 +127,7 @@ fn part_by(
 
 /// What a section says.
 #[tactic(auto, unfolding(crate::specs::Reading::part_of))]
-fn part_of(alloc: Global, sections: &[Section], section: &Section) -> Result<Parts, ConfigError>
+fn part_of(alloc: Global, sections: &Storages, section: &Section) -> Result<Parts, ConfigError>
     ensures { Gives (spec.part_of sections.now section.now) result }
 {
     let name = section_name(alloc, &section.title)?;
@@ -140,12 +141,12 @@ fn part_of(alloc: Global, sections: &[Section], section: &Section) -> Result<Par
     )
 }
 
-fn parts_of(alloc: Global, sections: &[Section]) -> Result<Parts, ConfigError>
-    ensures { Gives (spec.parts_of sections.now sections.now) result }
+fn parts_of(alloc: Global, storages: &Storages, sections: &[Section]) -> Result<Parts, ConfigError>
+    ensures { Gives (spec.parts_of storages.now sections.now) result }
 {
     let mut parts = no_parts(alloc);
     for section in sections {
-        let part = match part_of(alloc, sections, section) {
+        let part = match part_of(alloc, storages, section) {
             Ok(part) => part,
             Err(error) => return Err(error),
         };
@@ -244,6 +245,7 @@ pub fn read_config(alloc: Global, bytes: &[u8]) -> Result<Config, ConfigError>
     ensures { Gives (spec.config_of bytes.now) result }
 {
     let sections = read_sections(alloc, bytes)?;
-    let parts = parts_of(alloc, sections.as_slice())?;
+    let storages = Storages::of(alloc, sections.as_slice())?;
+    let parts = parts_of(alloc, &storages, sections.as_slice())?;
     whole(alloc, parts)
 }

@@ -7,5 +7,6 @@ mod settled;
 mod settling;
 mod texts;
 
+pub use paths::normalised;
 pub use settled::Settled;
 pub use settling::{settle, settle_status};

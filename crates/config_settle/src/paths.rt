@@ -91,7 +91,7 @@ fn or_here(alloc: Global, kept: &str) -> Result<Text, AllocError>
 
 /// Without repeated slashes, segments `.` and a final slash.
 #[tactic(auto, unfolding(crate::specs::Paths::normalised))]
-fn normalised(alloc: Global, path: &str) -> Result<Text, AllocError>
+pub fn normalised(alloc: Global, path: &str) -> Result<Text, AllocError>
     ensures { IfOk result (λ text. text ≡ spec.normalised path.now) }
 {
     let kept = kept_path(alloc, path)?;

@@ -1,11 +1,8 @@
 -- An undisturbed run over a ready job prints nothing and answers 0, or memory ran out.
-use Rattle.std.proofs.Common.{◌≡◌, ◌≢◌, ◌≤◌, ◌<◌, ◌⊎◌, inl, inr, ℕ, true, false, List, [], ◌∷◌, ◌++◌, take, length, Option, Some, None, Result, Ok, Err, refl, sym, ◌∙◌, ap, subst, append-nil, arith}
-use Rattle.std.specs.FinMap as fin
-use Rattle.outside.specs.Causes.{Rose}
-use Rattle.outside.specs.Runs.{Leads, Runs, Anything}
+use Rattle.std.proofs.Common.{◌≡◌, ◌≢◌, ◌⊎◌, ◌&&◌, ◌||◌, not, if◌then◌else◌, Bool, inl, inr, ℕ, true, false, List, [], ◌∷◌, ◌++◌, length, Option, Some, None, Result, Ok, Err, refl, sym, ◌∙◌, ap, subst, append-nil, arith}
+use Rattle.outside.specs.Runs.{Leads, Runs}
 use Rattle.outside.specs.Files as folders
 use Rattle.outside.specs.Files.{FolderState}
-use Rattle.outside.specs.FolderCalls.{AfterEdits}
 use Rattle.outside.specs.declared.folder.FolderEvent.{FolderEvent}
 use Rattle.outside.specs.declared.folder.FolderEvent.TheVariants as folder_event
 use Rattle.outside.proofs.Runs.{KeepsEvents, Runs-refl, Runs-weaker, Runs-one, Runs-both, Runs-first}
@@ -14,21 +11,24 @@ use Rattle.sync_plan.specs.declared.report.Line.{Line}
 use Rattle.sync_plan.specs.declared.report.JobEnd.{JobEnd}
 use Rattle.sync_plan.specs.declared.report.JobEnd.TheVariants.{Synced, NoMemory}
 use Rattle.sync_run.specs.Ready.{IsClean}
-use Rattle.vdirsyncer_cli.specs.declared.config.JobConfig.{JobConfig}
-use Rattle.vdirsyncer_cli.specs.declared.config.ConfigError.{ConfigError}
-use Rattle.vdirsyncer_cli.specs.declared.config.ConfigError.TheVariants as config_error
+use Rattle.cli_jobs.specs.declared.job.SyncJob.{SyncJob}
+use Rattle.cli_jobs.specs.declared.refusal.Refusal.{Refusal}
+use Rattle.vdirsyncer_cli.specs.declared.asked.Asked.{Asked}
+use Rattle.vdirsyncer_cli.specs.declared.asked.Wanted.{Wanted}
+use Rattle.vdirsyncer_cli.specs.declared.file_error.FileError.{FileError}
+use Rattle.vdirsyncer_cli.specs.declared.file_error.FileError.TheVariants as file_error
 use Rattle.vdirsyncer_cli.specs.declared.job.Cut.{Cut}
 use Rattle.vdirsyncer_cli.specs.declared.job.Cut.TheVariants.{Whole, WriteFault, Starved}
-use Rattle.vdirsyncer_cli.specs.Configs.{ConfigValue, lines_of, config_lines, IsConfig, IsBadLine}
-use Rattle.vdirsyncer_cli.specs.ConfigRead.{config_limit, ConfigSays, ConfigRead, IsFile}
+use Rattle.vdirsyncer_cli.specs.ConfigRead.{FileSays, FileRead}
 use Rattle.vdirsyncer_cli.specs.Jobs.{JobAt, side_a, side_b, status_of_job}
 use Rattle.vdirsyncer_cli.specs.Places.{Places, place_at}
 use Rattle.vdirsyncer_cli.specs.Printing.{Prints}
-use Rattle.vdirsyncer_cli.specs.Runs.{Ended, Did, ReadsConfig, WordsRun, job_of, out_text, err_text, after_job, job_status, status_of}
-use Rattle.vdirsyncer_cli.specs.Runs.Ended.{WrongWords, HelpAsked, ConfigRefused, OutOfMemory, JobEnded}
-use Rattle.vdirsyncer_cli.specs.Texts.{report_text, ident_line, end_text, exit_of}
+use Rattle.vdirsyncer_cli.specs.Runs.{Ended, Did, WordsRun, ComesTo, comes_to, job_of, out_text, err_text, after_job, job_status, status_of}
+use Rattle.vdirsyncer_cli.specs.Runs.Ended.{WrongWords, HelpAsked, WordsRefused, FileRefused, ConfigRefused, NothingChosen, OutOfMemory, JobEnded}
+use Rattle.cli_text.specs.Texts.{report_text, ident_line, end_text}
+use Rattle.cli_text.specs.Exits.{is_starved_end, is_synced_end}
 use Rattle.std.specs.List.{flat_map}
-use Rattle.vdirsyncer_cli.specs.Words.{WordsValue, folder_of, name_of}
+use Rattle.vdirsyncer_cli.specs.Files.{folder_of, name_of}
 use Rattle.vdirsyncer_cli.specs.CleanRuns.{IsInside, IsQuietReading, IsCleanJob, IsUndisturbed, LeavesClean, CompleteRun, SinkIsStill, SinkIsSilent}
 
 folder_keeps : KeepsEvents folders.happens
@@ -59,41 +59,42 @@ unedited : {s m t : FolderState} → folders.Evolves IsInside s t → folders.Ev
 unedited {s} {m} {t} whole edits later = no_events (Runs-both folder_keeps (Runs-first folder_keeps whole (Runs-weaker (λ e h. tt) edits) later) edits)
 
 -- what the reading does to its folder is an event or nothing
-says_later : (m t : FolderState) (name : List ℕ) (answer : Result JobConfig ConfigError) → ConfigSays m t name answer → folders.Since m t
-says_later m t name (Ok config) says = read_later m t name says.0 says.1
-  where
-    read_later : (m t : FolderState) (name bytes : List ℕ) → IsFile m t name bytes → folders.Since m t
-    read_later m t name bytes file = subst (λ (x : FolderState). folders.Since m x) (sym file.was_read) (Runs-one m (folder_event.Read name bytes) tt file.stood)
-says_later m t name (Err (config_error.BadLine n)) says = subst (λ (x : FolderState). folders.Since m x) (sym (says.1).was_read) (Runs-one m (folder_event.Read name says.0) tt (says.1).stood)
-says_later m t name (Err config_error.IsNotThere) says = subst (λ (x : FolderState). folders.Since m x) (sym says.0) (Runs-refl m)
-says_later m t name (Err config_error.TooLong) says = subst (λ (x : FolderState). folders.Since m x) (sym says.0) (Runs-refl m)
-says_later m t name (Err config_error.Fault) says = subst (λ (x : FolderState). folders.Since m x) (sym says) (Runs-refl m)
-says_later m t name (Err config_error.NoMemory) (inl same) = subst (λ (x : FolderState). folders.Since m x) (sym same) (Runs-refl m)
-says_later m t name (Err config_error.NoMemory) (inr read) = subst (λ (x : FolderState). folders.Since m x) (sym (read.1).was_read) (Runs-one m (folder_event.Read name read.0) tt (read.1).stood)
+says_later : (m t : FolderState) (name : List ℕ) (answer : Result (List ℕ) FileError) → FileSays m t name answer → folders.Since m t
+says_later m t name (Ok bytes) file = subst (λ (x : FolderState). folders.Since m x) (sym file.was_read) (Runs-one m (folder_event.Read name bytes) tt file.stood)
+says_later m t name (Err file_error.IsNotThere) says = subst (λ (x : FolderState). folders.Since m x) (sym says.0) (Runs-refl m)
+says_later m t name (Err file_error.TooLong) says = subst (λ (x : FolderState). folders.Since m x) (sym says.0) (Runs-refl m)
+says_later m t name (Err file_error.Fault) says = subst (λ (x : FolderState). folders.Since m x) (sym says) (Runs-refl m)
+says_later m t name (Err file_error.NoMemory) says = subst (λ (x : FolderState). folders.Since m x) (sym says) (Runs-refl m)
 
-no_bad_line : (bytes other : List ℕ) (value : ConfigValue) (n : ℕ) → Some bytes ≡ Some other → IsConfig (lines_of bytes) value → IsBadLine (lines_of other) n → ⊥
-no_bad_line bytes other value n same is bad =
-    let one : bytes ≡ other = cc in
-    bad.bad value is.proper (ap (λ (l : List ℕ). take n (lines_of l)) (sym one) ∙ ap (take n) is.written)
+-- an undisturbed reading meets the folder as it stood at entry
+reads_at : (old now : Places) (tells : List ℕ → Type 0) (wanted : Wanted) (answer : Result (List ℕ) FileError) → IsQuietReading old now tells wanted → FileRead old now tells (folder_of wanted.file) (name_of wanted.file) answer →
+    FileSays (place_at old (folder_of wanted.file)).state (place_at now (folder_of wanted.file)).state (name_of wanted.file) answer
+reads_at old now tells wanted answer quiet read =
+    let says = read.step.told quiet.told in
+    let at : says.moment ≡ (place_at old (folder_of wanted.file)).state = unedited quiet.unedited says.edits (says_later says.moment (place_at now (folder_of wanted.file)).state (name_of wanted.file) answer says.does) in
+    subst (λ (m : FolderState). FileSays m (place_at now (folder_of wanted.file)).state (name_of wanted.file) answer) at says.does
 
--- an undisturbed reading of a configuration isn't refused
-not_refused : (old now : Places) (tells : List ℕ → Type 0) (file : List ℕ) (error : ConfigError) → IsQuietReading old now tells file → ConfigRead old now tells (folder_of file) (name_of file) (Err error) → error ≢ config_error.NoMemory → ⊥
-not_refused old now tells file error quiet read not_memory =
-    let step = read.step in
-    let says = step.told quiet.told in
-    let at : says.moment ≡ (place_at old (folder_of file)).state = unedited quiet.unedited says.edits (says_later says.moment (place_at now (folder_of file)).state (name_of file) (Err error) says.does) in
-    by error says.moment (place_at now (folder_of file)).state (ap (λ (m : FolderState). fin.get m.files (name_of file)) at ∙ quiet.stands) not_memory (λ is. quiet.still (step.cause (ap Err is))) says.does
+-- it isn't refused
+not_refused : (old now : Places) (tells : List ℕ → Type 0) (wanted : Wanted) (error : FileError) → IsQuietReading old now tells wanted → FileRead old now tells (folder_of wanted.file) (name_of wanted.file) (Err error) → error ≢ file_error.NoMemory → ⊥
+not_refused old now tells wanted error quiet read not_memory = by error not_memory (λ is. quiet.still (read.step.cause (ap Err is))) (reads_at old now tells wanted (Err error) quiet read)
   where
-    by : (e : ConfigError) (m t : FolderState) → fin.get m.files (name_of file) ≡ Some quiet.bytes → e ≢ config_error.NoMemory → (e ≡ config_error.Fault → ⊥) → ConfigSays m t (name_of file) (Err e) → ⊥
-    by (config_error.BadLine n) m t stands not no_fault says = no_bad_line quiet.bytes says.0 quiet.value n (sym stands ∙ (says.1).stood) quiet.is_config says.2
-    by config_error.IsNotThere m t stands not no_fault says = let clash : Some quiet.bytes ≡ None = sym stands ∙ says.1 in cc
-    by config_error.TooLong m t stands not no_fault says =
-        let same : Some quiet.bytes ≡ Some says.1.0 = sym stands ∙ says.1.1 in
+    by : (e : FileError) → e ≢ file_error.NoMemory → (e ≡ file_error.Fault → ⊥) → FileSays (place_at old (folder_of wanted.file)).state (place_at now (folder_of wanted.file)).state (name_of wanted.file) (Err e) → ⊥
+    by file_error.IsNotThere not no_fault says = let clash : Some quiet.bytes ≡ None = sym quiet.stands ∙ says.1 in cc
+    by file_error.TooLong not no_fault says =
+        let same : Some quiet.bytes ≡ Some says.1.0 = sym quiet.stands ∙ says.1.1 in
         let one : quiet.bytes ≡ says.1.0 = cc in
         let len : length quiet.bytes ≡ length says.1.0 = ap length one in
         omega (arith, len, quiet.fits, says.1.2)
-    by config_error.Fault m t stands not no_fault says = no_fault refl
-    by config_error.NoMemory m t stands not no_fault says = not refl
+    by file_error.Fault not no_fault says = no_fault refl
+    by file_error.NoMemory not no_fault says = not refl
+
+-- what it comes to is its job
+comes_to_its_job : (old now : Places) (tells : List ℕ → Type 0) (what : Asked) (wanted : Wanted) (answer : Result (Option SyncJob) Refusal) → (quiet : IsQuietReading old now tells wanted) → ComesTo old now tells what wanted answer → answer ≡ Ok (Some quiet.job)
+comes_to_its_job old now tells what wanted answer quiet comes =
+    let file = reads_at old now tells wanted (Ok comes.bytes) quiet comes.reads.read in
+    let same : Some comes.bytes ≡ Some quiet.bytes = sym file.stood ∙ quiet.stands in
+    let one : comes.bytes ≡ quiet.bytes = cc in
+    sym comes.comes ∙ (ap (comes_to wanted) one ∙ quiet.comes)
 
 -- a text that isn't there, printed to a sink that is still
 printed_nothing : {S : Type 0} (count : S → ℕ) (tells : S → Type 0) (held : S → List ℕ) (old new : S) (text : List ℕ) (cut : Cut) → text ≡ [] → SinkIsStill count old new → Prints count tells held old new text cut → SinkIsSilent tells held old new
@@ -107,10 +108,15 @@ no_write_fault count tells held old new text WriteFault still prints is = still 
 no_write_fault count tells held old new text Starved still prints is = cc
 
 -- the job of an undisturbed run is clean, or memory ran out
-job_is_clean : (between new : Places) (tells tells' : List ℕ → Type 0) (config : JobConfig) (report : Report) → JobAt between new tells tells' (job_of config) report → (clean : IsCleanJob between new tells (job_of config) report) →
-    (report.end ≡ NoMemory) ⊎ IsClean (side_a between (job_of config)) (side_a new (job_of config)) (side_b between (job_of config)) (side_b new (job_of config)) clean.rows (status_of_job new (job_of config)) report.end report.lines.items
-job_is_clean between new tells tells' config report (inl ran) clean = ran.complete clean.told clean.rows clean.ready clean.quiet clean.rows_fit
-job_is_clean between new tells tells' config report (inr same) clean = absurd (clean.apart same.same)
+job_is_clean : (between new : Places) (tells tells' : List ℕ → Type 0) (job : SyncJob) (report : Report) → JobAt between new tells tells' (job_of job) report → (clean : IsCleanJob between new tells (job_of job) report) →
+    (report.end ≡ NoMemory) ⊎ IsClean (side_a between (job_of job)) (side_a new (job_of job)) (side_b between (job_of job)) (side_b new (job_of job)) clean.rows (status_of_job new (job_of job)) report.end report.lines.items
+job_is_clean between new tells tells' job report (inl ran) clean = ran.complete clean.told clean.rows clean.ready clean.quiet clean.rows_fit
+job_is_clean between new tells tells' job report (inr same) clean = absurd (clean.apart same.same)
+
+-- the exit status of one job
+abbrev exit_of : JobEnd → List Line → Bool → ℕ
+exit_of end lines write_fault =
+    if is_starved_end end || false then 3 else (if (is_synced_end end lines && true) && not write_fault then 0 else 1)
 
 -- the exit status and the text of such a job
 status_is : (report : Report) (cut : Cut) (result : ℕ) → (cut ≡ WriteFault → ⊥) → result ≡ job_status report cut → (report.end ≡ NoMemory) ⊎ ((report.end ≡ Synced) × (report.lines.items ≡ [])) → (result ≡ 3) ⊎ ((result ≡ 0) × (cut ≡ Whole))
@@ -129,10 +135,10 @@ no_text : (name : List ℕ) (report : Report) → report.end ≡ Synced → repo
 unfolding report_text
 no_text name report end lines = ap (λ (l : List Line). flat_map (ident_line name) l ++ end_text name report.end) lines ∙ ap (end_text name) end
 
-pub complete_run : {S E : Type 0} (count_s : S → ℕ) (tells_s : S → Type 0) (held_s : S → List ℕ) (out out' : S) (count_e : E → ℕ) (tells_e : E → Type 0) (held_e : E → List ℕ) (err err' : E) (old new : Places) (tells tells' : List ℕ → Type 0) (asked : WordsValue) (result : ℕ) →
-    WordsRun old new tells tells' asked (Prints count_s tells_s held_s out out') (Prints count_e tells_e held_e err err') result →
-    CompleteRun old new tells tells' asked (Prints count_s tells_s held_s out out') (Prints count_e tells_e held_e err err') (SinkIsStill count_s out out' × SinkIsStill count_e err err') (SinkIsSilent tells_s held_s out out' × SinkIsSilent tells_e held_e err err') result
-complete_run {S} {E} count_s tells_s held_s out out' count_e tells_e held_e err err' old new tells tells' asked result run =
+pub complete_run : {S E : Type 0} (count_s : S → ℕ) (tells_s : S → Type 0) (held_s : S → List ℕ) (out out' : S) (count_e : E → ℕ) (tells_e : E → Type 0) (held_e : E → List ℕ) (err err' : E) (old new : Places) (tells tells' : List ℕ → Type 0) (what : Asked) (result : ℕ) →
+    WordsRun old new tells tells' what (Prints count_s tells_s held_s out out') (Prints count_e tells_e held_e err err') result →
+    CompleteRun old new tells tells' what (Prints count_s tells_s held_s out out') (Prints count_e tells_e held_e err err') (SinkIsStill count_s out out' × SinkIsStill count_e err err') (SinkIsSilent tells_s held_s out out' × SinkIsSilent tells_e held_e err err') result
+complete_run {S} {E} count_s tells_s held_s out out' count_e tells_e held_e err err' old new tells tells' what result run =
     record {
       run = run;
       complete = λ still quiet. at run.ended run.did run.out_cut run.err_cut run.printed run.told run.status still quiet;
@@ -141,21 +147,26 @@ complete_run {S} {E} count_s tells_s held_s out out' count_e tells_e held_e err 
     Silent : Type 0
     Silent = SinkIsSilent tells_s held_s out out' × SinkIsSilent tells_e held_e err err'
 
-    at : (ended : Ended) (did : Did old new tells tells' asked ended) (out_cut err_cut : Cut) → Prints count_s tells_s held_s out out' (out_text ended) out_cut → Prints count_e tells_e held_e err err' (err_text ended out_cut) err_cut → result ≡ status_of ended out_cut → SinkIsStill count_s out out' × SinkIsStill count_e err err' → IsUndisturbed old new tells tells' asked ended did →
-        (result ≡ 3) ⊎ ((result ≡ 0) × Silent × LeavesClean old new tells tells' asked ended did)
+    at : (ended : Ended) (did : Did old new tells tells' what ended) (out_cut err_cut : Cut) → Prints count_s tells_s held_s out out' (out_text ended) out_cut → Prints count_e tells_e held_e err err' (err_text ended out_cut) err_cut → result ≡ status_of ended out_cut → SinkIsStill count_s out out' × SinkIsStill count_e err err' → IsUndisturbed old new tells tells' what ended did →
+        (result ≡ 3) ⊎ ((result ≡ 0) × Silent × LeavesClean old new tells tells' what ended did)
     at WrongWords did out_cut err_cut printed told status still quiet = absurd quiet
     at HelpAsked did out_cut err_cut printed told status still quiet = absurd quiet
-    at (ConfigRefused file e) did out_cut err_cut printed told status still quiet = absurd (not_refused old new tells file e quiet (did.0).read did.1)
+    at (WordsRefused line) did out_cut err_cut printed told status still quiet = absurd quiet
+    at (FileRefused wanted e) did out_cut err_cut printed told status still quiet = absurd (not_refused old new tells wanted e quiet (did.0).read did.1)
+    at (ConfigRefused wanted r) did out_cut err_cut printed told status still quiet =
+        let clash : Err r ≡ Ok (Some quiet.job) = comes_to_its_job old new tells what wanted (Err r) quiet did.0 in absurd (cc)
+    at (NothingChosen wanted) did out_cut err_cut printed told status still quiet =
+        let clash : Ok None ≡ Ok (Some quiet.job) = comes_to_its_job old new tells what wanted (Ok None) quiet did.0 in absurd (cc)
     at OutOfMemory did out_cut err_cut printed told status still quiet = inl status
-    at (JobEnded config report) did out_cut err_cut printed told status still quiet =
-        let job = job_is_clean did.1 new tells tells' config report did.3 quiet.1 in
-        let no_fault = no_write_fault count_s tells_s held_s out out' (report_text config.pair report) out_cut still.0 printed in
+    at (JobEnded wanted named report) did out_cut err_cut printed told status still quiet =
+        let job = job_is_clean did.0 new tells tells' named report did.2 quiet.1 in
+        let no_fault = no_write_fault count_s tells_s held_s out out' (report_text named.pair report) out_cut still.0 printed in
         elim job [
           | inl starved ↦ elim (status_is report out_cut result no_fault status (inl starved)) [ inl three ↦ inl three | inr other ↦ absurd (starved_status report out_cut result starved other.0 other.1 status) ]
           | inr clean ↦ elim (status_is report out_cut result no_fault status (inr (clean.synced, clean.no_lines))) [
             | inl three ↦ inl three
             | inr fine ↦
-                let silent_s = printed_nothing count_s tells_s held_s out out' (report_text config.pair report) out_cut (no_text config.pair report clean.synced clean.no_lines) still.0 printed in
+                let silent_s = printed_nothing count_s tells_s held_s out out' (report_text named.pair report) out_cut (no_text named.pair report clean.synced clean.no_lines) still.0 printed in
                 let silent_e = printed_nothing count_e tells_e held_e err err' (after_job out_cut) err_cut (ap after_job fine.1) still.1 told in
                 inr (fine.0, (silent_s, silent_e), (quiet.1.rows, quiet.1.ready.kept, clean))
           ]

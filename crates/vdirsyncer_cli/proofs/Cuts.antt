@@ -8,7 +8,7 @@ use Rattle.std.proofs.lemmas.Str.Pattern.{NoCharPasses-char}
 use Rattle.std.proofs.lemmas.List.Sums.{suffix_len_is}
 use Rattle.std.proofs.lemmas.List.Folds.{list_any_at, list_any_none}
 use Rattle.std.proofs.lemmas.List.{get_or-drop, get_or_default, length-drop}
-use Rattle.vdirsyncer_cli.specs.Words.{is_slash}
+use Rattle.vdirsyncer_cli.specs.Files.{is_slash}
 
 no_slash_behind : (bs : List ℕ) (j : ℕ) → NoCharPasses (λ d. d == 47) (drop j bs) → (k : ℕ) → j ≤ k → k < length bs → get_or bs k 0 ≢ 47
 no_slash_behind bs j h k le lt =

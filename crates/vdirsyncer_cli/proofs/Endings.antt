@@ -1,25 +1,15 @@
--- The endings of a configuration are those that a store of a folder takes.
-use Rattle.std.proofs.Common.{◌≡◌, ℕ, List, Bool, true, false, ◌&&◌, Result, Ok, Err, IfOk}
+-- The endings of a job are those that a store of a folder takes.
+use Rattle.std.proofs.Common.{◌≡◌, ℕ, List, true, Some, Ok, ap, ◌∙◌}
+use Rattle.cli_jobs.specs.declared.job.SyncJob.{SyncJob}
+use Rattle.cli_jobs.proofs.Folders.{endings_kept}
 use Rattle.vdir_store.specs.Names.{is_ending}
-use Rattle.vdirsyncer_cli.specs.declared.reader.TextKind.TheVariants.{Ending}
-use Rattle.vdirsyncer_cli.specs.declared.config.JobConfig.{JobConfig}
-use Rattle.vdirsyncer_cli.specs.Configs.{ConfigValue, IsConfig, IsJobOf, fits, is_text}
-use Rattle.vdirsyncer_cli.specs.declared.config.ConfigError.{ConfigError}
-use Rattle.vdirsyncer_cli.specs.ConfigRead.{HasEndings}
+use Rattle.vdirsyncer_cli.specs.declared.asked.Wanted.{Wanted}
+use Rattle.vdirsyncer_cli.specs.declared.job.Job.{Job}
+use Rattle.vdirsyncer_cli.specs.Runs.{comes_to, job_of}
+use Rattle.vdirsyncer_cli.proofs.EndingLaws.{store_takes}
 
-second : (p q : Bool) → (p && q) ≡ true → q ≡ true
-second true q e = e
-second false q e = absurd (let clash : false ≡ true = e in cc)
+pub ending_of_a : (wanted : Wanted) (bytes : List ℕ) (named : SyncJob) (job : Job) → comes_to wanted bytes ≡ Ok (Some named) → job ≡ job_of named → is_ending job.ending_a ≡ true
+ending_of_a wanted bytes named job comes is = ap (λ (j : Job). is_ending j.ending_a) is ∙ store_takes named.ending_a (endings_kept wanted.names wanted.home bytes named comes).of_a
 
-fits_ending : (t : List ℕ) → fits Ending t ≡ true → is_ending t ≡ true
-unfolding fits
-fits_ending t e = second (is_text t) (is_ending t) e
-
--- what is read as a configuration has such endings
-pub endings_read : (lines : List (List ℕ)) (result : Result JobConfig ConfigError) → IfOk result (λ job. (c : ConfigValue) × IsConfig lines c × IsJobOf job c) → IfOk result HasEndings
-endings_read lines (Ok job) (c, is_config, kept) =
-    record {
-      of_a = rw kept.ending_a (fits_ending c.ending_a is_config.proper.ending_a);
-      of_b = rw kept.ending_b (fits_ending c.ending_b is_config.proper.ending_b);
-    }
-endings_read lines (Err e) h = tt
+pub ending_of_b : (wanted : Wanted) (bytes : List ℕ) (named : SyncJob) (job : Job) → comes_to wanted bytes ≡ Ok (Some named) → job ≡ job_of named → is_ending job.ending_b ≡ true
+ending_of_b wanted bytes named job comes is = ap (λ (j : Job). is_ending j.ending_b) is ∙ store_takes named.ending_b (endings_kept wanted.names wanted.home bytes named comes).of_b

@@ -1,9 +1,8 @@
 pub mod PlaceLaws
-pub mod BadLines
-pub mod ConfigLines
 pub mod Cuts
 pub mod OpenedLaws
 pub mod JobLaws
+pub mod EndingLaws
 pub mod Endings
 pub mod ConfigLaws
 pub mod WordsLaws

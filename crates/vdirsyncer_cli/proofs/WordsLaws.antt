@@ -1,23 +1,27 @@
 -- From the parts of a run of the program to the whole.
-use Rattle.std.proofs.Common.{◌≡◌, ◌≢◌, ◌⊎◌, inl, inr, ℕ, true, List, [], Result, Ok, Err, refl, ap, sym, ◌∙◌, subst, append-nil, arith}
+use Rattle.std.proofs.Common.{◌≡◌, ◌≢◌, ◌⊎◌, inl, inr, ℕ, List, [], Some, None, Result, Ok, Err, refl, sym, subst, append-nil, arith}
 use Rattle.outside.specs.Places.{IsSame, StayTold}
 use Rattle.sync_plan.specs.declared.report.Report.{Report}
-use Rattle.vdirsyncer_cli.specs.declared.config.JobConfig.{JobConfig}
-use Rattle.vdirsyncer_cli.specs.declared.config.ConfigError.{ConfigError}
+use Rattle.cli_jobs.specs.declared.job.SyncJob.{SyncJob}
+use Rattle.cli_jobs.specs.declared.refusal.Refusal.{Refusal}
+use Rattle.cli_jobs.specs.declared.refusal.Refusal.TheVariants as refusal
+use Rattle.cli_jobs.specs.Texts.{refusal_text}
+use Rattle.vdirsyncer_cli.specs.declared.asked.Asked.{Asked}
+use Rattle.vdirsyncer_cli.specs.declared.asked.Asked.TheVariants.{Wrong, Help, Refused, Run}
+use Rattle.vdirsyncer_cli.specs.declared.asked.Wanted.{Wanted}
+use Rattle.vdirsyncer_cli.specs.declared.file_error.FileError.{FileError}
+use Rattle.vdirsyncer_cli.specs.declared.file_error.FileError.TheVariants as file_error
 use Rattle.vdirsyncer_cli.specs.declared.job.Cut.{Cut}
-use Rattle.vdirsyncer_cli.specs.declared.job.Cut.TheVariants.{Whole}
+use Rattle.vdirsyncer_cli.specs.declared.job.Cut.TheVariants.{Whole, Starved}
 use Rattle.vdirsyncer_cli.specs.declared.job.Job.{Job}
 use Rattle.vdirsyncer_cli.specs.Printing.{Prints}
 use Rattle.vdirsyncer_cli.specs.Places.{Places}
-use Rattle.vdirsyncer_cli.specs.Words.{folder_of, name_of}
-use Rattle.vdirsyncer_cli.specs.Words.WordsValue.{sync}
-use Rattle.vdirsyncer_cli.specs.ConfigRead.{ConfigRead, HasEndings}
-use Rattle.vdir_store.specs.Names.{is_ending}
+use Rattle.vdirsyncer_cli.specs.Files.{folder_of, name_of, file_text}
+use Rattle.vdirsyncer_cli.specs.ConfigRead.{FileRead}
 use Rattle.vdirsyncer_cli.specs.Jobs.{IsTold, JobAt}
-use Rattle.vdirsyncer_cli.specs.declared.config.ConfigError.TheVariants as config_error
-use Rattle.vdirsyncer_cli.specs.Texts.{config_text}
-use Rattle.vdirsyncer_cli.specs.Runs.{job_of, memory_line, WordsRun, Refuses, Finishes, TellsStarved}
-use Rattle.vdirsyncer_cli.specs.Runs.Ended.{ConfigRefused, OutOfMemory, JobEnded}
+use Rattle.vdirsyncer_cli.specs.Runs.{job_of, memory_line, comes_to, WordsRun, Refuses, Finishes, TellsStarved, cut_status}
+use Rattle.cli_words.specs.Usage.{usage}
+use Rattle.vdirsyncer_cli.specs.Runs.Ended.{WrongWords, HelpAsked, WordsRefused, FileRefused, ConfigRefused, NothingChosen, OutOfMemory, JobEnded}
 use Rattle.vdirsyncer_cli.proofs.PlaceLaws.{same_places}
 use Rattle.vdirsyncer_cli.proofs.JobLaws.{step_told}
 
@@ -42,31 +46,57 @@ job_told old new t0 t1 t2 job report stay (inl ran) =
 job_told old new t0 t1 t2 job report stay (inr same) =
     inr (record { same = same.same; end = same.end; lines = same.lines; places = same.places; tells_still = λ q told. same.tells_still q (stay q told) })
 
-pub refused_run : (old new : Places) (t t' : List ℕ → Type 0) (file : List ℕ) (error : ConfigError) (PrintsOut PrintsErr : List ℕ → Cut → Type 0) (result : ℕ) → ConfigRead old new t (folder_of file) (name_of file) (Err error) → StayTold t t' → PrintsOut [] Whole → Refuses file error PrintsErr result → WordsRun old new t t' (sync file) PrintsOut PrintsErr result
-refused_run old new t t' file error PrintsOut PrintsErr result read stay quiet refuses = by refuses.told
-  where
-    by : ((error ≢ config_error.NoMemory) × PrintsErr (config_text file error) refuses.cut × (result ≡ 1)) ⊎ (PrintsErr memory_line refuses.cut × (result ≡ 3)) → WordsRun old new t t' (sync file) PrintsOut PrintsErr result
-    by (inl h) = record { ended = ConfigRefused file error; out_cut = Whole; err_cut = refuses.cut; did = (record { is_asked = refl; read = read }, h.0, stay); printed = quiet; told = h.1; not_starved = refuses.not_starved; status = h.2 }
-    by (inr h) = record { ended = OutOfMemory; out_cut = Whole; err_cut = refuses.cut; did = (file, Err error, record { is_asked = refl; read = read }, stay); printed = quiet; told = h.0; not_starved = refuses.not_starved; status = h.1 }
+-- the file of the configuration was read so
+abbrev pub Read : Places → Places → (List ℕ → Type 0) → Wanted → Result (List ℕ) FileError → Type 0
+Read old new t wanted answer = FileRead old new t (folder_of wanted.file) (name_of wanted.file) answer
 
-pub starved_run : (old new : Places) (t t' : List ℕ → Type 0) (file : List ℕ) (answer : Result JobConfig ConfigError) (PrintsOut PrintsErr : List ℕ → Cut → Type 0) (result : ℕ) → ConfigRead old new t (folder_of file) (name_of file) answer → StayTold t t' → PrintsOut [] Whole → TellsStarved PrintsErr result → WordsRun old new t t' (sync file) PrintsOut PrintsErr result
-starved_run old new t t' file answer PrintsOut PrintsErr result read stay quiet tells =
-    record { ended = OutOfMemory; out_cut = Whole; err_cut = tells.cut; did = (file, answer, record { is_asked = refl; read = read }, stay); printed = quiet; told = tells.told; not_starved = tells.not_starved; status = tells.status }
+pub starved_run : (old new : Places) (t t' : List ℕ → Type 0) (wanted : Wanted) (answer : Result (List ℕ) FileError) (PrintsOut PrintsErr : List ℕ → Cut → Type 0) (result : ℕ) → Read old new t wanted answer → StayTold t t' → PrintsOut [] Whole → TellsStarved PrintsErr result → WordsRun old new t t' (Run wanted) PrintsOut PrintsErr result
+starved_run old new t t' wanted answer PrintsOut PrintsErr result read stay quiet tells =
+    record { ended = OutOfMemory; out_cut = Whole; err_cut = tells.cut; did = (inr (wanted, answer, record { is_asked = refl; read = read }), stay); printed = quiet; told = tells.told; not_starved = tells.not_starved; status = tells.status }
+
+pub refused_file : (old new : Places) (t t' : List ℕ → Type 0) (wanted : Wanted) (error : FileError) (PrintsOut PrintsErr : List ℕ → Cut → Type 0) (result : ℕ) → Read old new t wanted (Err error) → StayTold t t' → PrintsOut [] Whole → Refuses (error ≡ file_error.NoMemory) (file_text wanted.file error) PrintsErr result → WordsRun old new t t' (Run wanted) PrintsOut PrintsErr result
+refused_file old new t t' wanted error PrintsOut PrintsErr result read stay quiet refuses = by refuses.told
+  where
+    by : ((error ≢ file_error.NoMemory) × PrintsErr (file_text wanted.file error) refuses.cut × (result ≡ 1)) ⊎ (PrintsErr memory_line refuses.cut × (result ≡ 3)) → WordsRun old new t t' (Run wanted) PrintsOut PrintsErr result
+    by (inl h) = record { ended = FileRefused wanted error; out_cut = Whole; err_cut = refuses.cut; did = (record { is_asked = refl; read = read }, h.0, stay); printed = quiet; told = h.1; not_starved = refuses.not_starved; status = h.2 }
+    by (inr h) = starved_run old new t t' wanted (Err error) PrintsOut PrintsErr result read stay quiet (record { cut = refuses.cut; not_starved = refuses.not_starved; told = h.0; status = h.1 })
+
+pub refused_config : (old new : Places) (t t' : List ℕ → Type 0) (wanted : Wanted) (bytes : List ℕ) (reason : Refusal) (PrintsOut PrintsErr : List ℕ → Cut → Type 0) (result : ℕ) → Read old new t wanted (Ok bytes) → StayTold t t' → (reason ≢ refusal.NoMemory → comes_to wanted bytes ≡ Err reason) → PrintsOut [] Whole → Refuses (reason ≡ refusal.NoMemory) (refusal_text reason) PrintsErr result → WordsRun old new t t' (Run wanted) PrintsOut PrintsErr result
+refused_config old new t t' wanted bytes reason PrintsOut PrintsErr result read stay comes quiet refuses = by refuses.told
+  where
+    by : ((reason ≢ refusal.NoMemory) × PrintsErr (refusal_text reason) refuses.cut × (result ≡ 1)) ⊎ (PrintsErr memory_line refuses.cut × (result ≡ 3)) → WordsRun old new t t' (Run wanted) PrintsOut PrintsErr result
+    by (inl h) = record { ended = ConfigRefused wanted reason; out_cut = Whole; err_cut = refuses.cut; did = (record { bytes = bytes; reads = record { is_asked = refl; read = read }; comes = comes h.0 }, h.0, stay); printed = quiet; told = h.1; not_starved = refuses.not_starved; status = h.2 }
+    by (inr h) = starved_run old new t t' wanted (Ok bytes) PrintsOut PrintsErr result read stay quiet (record { cut = refuses.cut; not_starved = refuses.not_starved; told = h.0; status = h.1 })
+
+pub nothing_run : (old new : Places) (t t' : List ℕ → Type 0) (wanted : Wanted) (bytes : List ℕ) (PrintsOut PrintsErr : List ℕ → Cut → Type 0) → Read old new t wanted (Ok bytes) → StayTold t t' → comes_to wanted bytes ≡ Ok None → PrintsOut [] Whole → PrintsErr [] Whole → WordsRun old new t t' (Run wanted) PrintsOut PrintsErr 0
+nothing_run old new t t' wanted bytes PrintsOut PrintsErr read stay comes quiet quiet' =
+    record { ended = NothingChosen wanted; out_cut = Whole; err_cut = Whole; did = (record { bytes = bytes; reads = record { is_asked = refl; read = read }; comes = comes }, stay); printed = quiet; told = quiet'; not_starved = λ is. absurd (cc); status = refl }
 
 -- the job wasn't opened
-pub unopened_run : (old between new : Places) (t t1 t' : List ℕ → Type 0) (file : List ℕ) (answer : Result JobConfig ConfigError) (PrintsOut PrintsErr : List ℕ → Cut → Type 0) (result : ℕ) → ConfigRead old between t (folder_of file) (name_of file) answer → StayTold t t1 → IsSame between new → StayTold t1 t' → PrintsOut [] Whole → TellsStarved PrintsErr result → WordsRun old new t t' (sync file) PrintsOut PrintsErr result
-unopened_run old between new t t1 t' file answer PrintsOut PrintsErr result read stay same stay' quiet tells =
-    let read' : ConfigRead old new t (folder_of file) (name_of file) answer = subst (λ (p : Places). ConfigRead old p t (folder_of file) (name_of file) answer) (sym (same_places between new same)) read in
-    starved_run old new t t' file answer PrintsOut PrintsErr result read' (λ q told. stay' q (stay q told)) quiet tells
+pub unopened_run : (old between new : Places) (t t1 t' : List ℕ → Type 0) (wanted : Wanted) (answer : Result (List ℕ) FileError) (PrintsOut PrintsErr : List ℕ → Cut → Type 0) (result : ℕ) → Read old between t wanted answer → StayTold t t1 → IsSame between new → StayTold t1 t' → PrintsOut [] Whole → TellsStarved PrintsErr result → WordsRun old new t t' (Run wanted) PrintsOut PrintsErr result
+unopened_run old between new t t1 t' wanted answer PrintsOut PrintsErr result read stay same stay' quiet tells =
+    let read' : Read old new t wanted answer = subst (λ (p : Places). Read old p t wanted answer) (sym (same_places between new same)) read in
+    starved_run old new t t' wanted answer PrintsOut PrintsErr result read' (λ q told. stay' q (stay q told)) quiet tells
 
-pub job_run : (old between new : Places) (t t1 t' : List ℕ → Type 0) (file : List ℕ) (config : JobConfig) (job : Job) (report : Report) (PrintsOut PrintsErr : List ℕ → Cut → Type 0) (result : ℕ) → ConfigRead old between t (folder_of file) (name_of file) (Ok config) → StayTold t t1 → job ≡ job_of config → JobAt between new t1 t' job report → Finishes config.pair report PrintsOut PrintsErr result → WordsRun old new t t' (sync file) PrintsOut PrintsErr result
-job_run old between new t t1 t' file config job report PrintsOut PrintsErr result read stay is ran finishes =
-    let at : JobAt between new t t' (job_of config) report = subst (λ (j : Job). JobAt between new t t' j report) is (job_told between new t t1 t' job report stay ran) in
-    record { ended = JobEnded config report; out_cut = finishes.out_cut; err_cut = finishes.err_cut; did = (file, between, record { is_asked = refl; read = read }, at); printed = finishes.printed; told = finishes.told; not_starved = finishes.not_starved; status = finishes.status }
+pub job_run : (old between new : Places) (t t1 t' : List ℕ → Type 0) (wanted : Wanted) (bytes : List ℕ) (named : SyncJob) (job : Job) (report : Report) (PrintsOut PrintsErr : List ℕ → Cut → Type 0) (result : ℕ) → Read old between t wanted (Ok bytes) → StayTold t t1 → comes_to wanted bytes ≡ Ok (Some named) → job ≡ job_of named → JobAt between new t1 t' job report → Finishes named.pair report PrintsOut PrintsErr result → WordsRun old new t t' (Run wanted) PrintsOut PrintsErr result
+job_run old between new t t1 t' wanted bytes named job report PrintsOut PrintsErr result read stay comes is ran finishes =
+    let at : JobAt between new t t' (job_of named) report = subst (λ (j : Job). JobAt between new t t' j report) is (job_told between new t t1 t' job report stay ran) in
+    record { ended = JobEnded wanted named report; out_cut = finishes.out_cut; err_cut = finishes.err_cut; did = (between, record { bytes = bytes; reads = record { is_asked = refl; read = read }; comes = comes }, at); printed = finishes.printed; told = finishes.told; not_starved = finishes.not_starved; status = finishes.status }
 
--- the job that a configuration names has its endings
-pub ending_of_a : (config : JobConfig) (job : Job) → job ≡ job_of config → HasEndings config → is_ending job.ending_a ≡ true
-ending_of_a config job is endings = ap (λ (j : Job). is_ending j.ending_a) is ∙ endings.of_a
+-- a want of memory before anything was opened
+pub starved_first : (old new : Places) (t t' : List ℕ → Type 0) (what : Asked) (PrintsOut PrintsErr : List ℕ → Cut → Type 0) (result : ℕ) → IsSame old new → StayTold t t' → PrintsOut [] Whole → TellsStarved PrintsErr result → WordsRun old new t t' what PrintsOut PrintsErr result
+starved_first old new t t' what PrintsOut PrintsErr result same stay quiet tells =
+    record { ended = OutOfMemory; out_cut = Whole; err_cut = tells.cut; did = (inl same, stay); printed = quiet; told = tells.told; not_starved = tells.not_starved; status = tells.status }
 
-pub ending_of_b : (config : JobConfig) (job : Job) → job ≡ job_of config → HasEndings config → is_ending job.ending_b ≡ true
-ending_of_b config job is endings = ap (λ (j : Job). is_ending j.ending_b) is ∙ endings.of_b
+-- the words are answered, and nothing else is done
+pub wrong_run : (old : Places) (t : List ℕ → Type 0) (what : Asked) (PrintsOut PrintsErr : List ℕ → Cut → Type 0) (cut : Cut) → what ≡ Wrong → PrintsOut [] Whole → PrintsErr usage cut → cut ≢ Starved → WordsRun old old t t what PrintsOut PrintsErr 2
+wrong_run old t what PrintsOut PrintsErr cut is quiet told not_starved =
+    record { ended = WrongWords; out_cut = Whole; err_cut = cut; did = (is, (λ q. refl), (λ q h. h)); printed = quiet; told = told; not_starved = not_starved; status = refl }
+
+pub help_run : (old : Places) (t : List ℕ → Type 0) (what : Asked) (PrintsOut PrintsErr : List ℕ → Cut → Type 0) (cut : Cut) (result : ℕ) → what ≡ Help → PrintsOut usage cut → PrintsErr [] Whole → result ≡ cut_status cut → WordsRun old old t t what PrintsOut PrintsErr result
+help_run old t what PrintsOut PrintsErr cut result is printed quiet status =
+    record { ended = HelpAsked; out_cut = cut; err_cut = Whole; did = (is, (λ q. refl), (λ q h. h)); printed = printed; told = quiet; not_starved = λ is. absurd (cc); status = status }
+
+pub refused_words : (old : Places) (t : List ℕ → Type 0) (what : Asked) (line : List ℕ) (PrintsOut PrintsErr : List ℕ → Cut → Type 0) (cut : Cut) → what ≡ Refused line → PrintsOut [] Whole → PrintsErr line cut → cut ≢ Starved → WordsRun old old t t what PrintsOut PrintsErr 1
+refused_words old t what line PrintsOut PrintsErr cut is quiet told not_starved =
+    record { ended = WordsRefused line; out_cut = Whole; err_cut = cut; did = (is, (λ q. refl), (λ q h. h)); printed = quiet; told = told; not_starved = not_starved; status = refl }

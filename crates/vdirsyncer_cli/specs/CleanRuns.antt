@@ -1,25 +1,25 @@
 -- When a run of the program is undisturbed over a ready job, and what it then leaves (this project's own).
-use Rattle.std.specs.Prelude.{◌≡◌, ◌≤◌, ◌⊎◌, ℕ, List, length, Option, Some, Result, Ok, Err}
+use Rattle.std.specs.Prelude.{◌≡◌, ◌≤◌, ◌⊎◌, ℕ, List, length, Some, Ok}
 use Rattle.std.specs.FinMap as fin
 use Rattle.outside.specs.Causes.{Rose}
-use Rattle.outside.specs.Files.{FolderState, Evolves}
+use Rattle.outside.specs.Files.{Evolves}
 use Rattle.outside.specs.declared.folder.FolderEvent.{FolderEvent}
 use Rattle.outside.specs.declared.folder.FolderEvent.TheVariants as folder_event
-use Rattle.outside.specs.Places.{Place}
 use Rattle.status_keeper.specs.declared.row.Row.{Row}
 use Rattle.sync_plan.specs.declared.report.Report.{Report}
 use Rattle.sync_run.specs.Ready.{IsReadyJob, IsClean}
-use Rattle.vdirsyncer_cli.specs.declared.config.JobConfig.{JobConfig}
+use Rattle.cli_jobs.specs.declared.job.SyncJob.{SyncJob}
+use Rattle.vdirsyncer_cli.specs.declared.asked.Asked.{Asked}
+use Rattle.vdirsyncer_cli.specs.declared.asked.Wanted.{Wanted}
 use Rattle.vdirsyncer_cli.specs.declared.job.Cut.{Cut}
 use Rattle.vdirsyncer_cli.specs.declared.job.Job.{Job}
-use Rattle.vdirsyncer_cli.specs.Configs.{ConfigValue, lines_of, IsConfig}
 use Rattle.vdirsyncer_cli.specs.ConfigRead.{config_limit}
 use Rattle.vdirsyncer_cli.specs.Jobs.{IsTold, IsQuietJob, RowsFit, side_a, side_b, status_of_job}
 use Rattle.vdirsyncer_cli.specs.Places.{Places, place_at}
-use Rattle.vdirsyncer_cli.specs.Runs.{Ended, Did, WordsRun, job_of}
-use Rattle.vdirsyncer_cli.specs.Runs.Ended.{WrongWords, HelpAsked, ConfigRefused, OutOfMemory, JobEnded}
+use Rattle.vdirsyncer_cli.specs.Runs.{Ended, Did, WordsRun, job_of, comes_to}
+use Rattle.vdirsyncer_cli.specs.Runs.Ended.{WrongWords, HelpAsked, WordsRefused, FileRefused, ConfigRefused, NothingChosen, OutOfMemory, JobEnded}
 use Rattle.vdirsyncer_cli.specs.SamePlace.{IsSamePlace}
-use Rattle.vdirsyncer_cli.specs.Words.{WordsValue, folder_of, name_of}
+use Rattle.vdirsyncer_cli.specs.Files.{folder_of, name_of}
 
 -- no edit from outside
 abbrev pub IsInside : FolderEvent → Type 0
@@ -29,16 +29,16 @@ IsInside (folder_event.Wrote name old new) = Unit {0}
 IsInside (folder_event.Read name bytes) = Unit {0}
 IsInside folder_event.Made = Unit {0}
 
--- the file of the configuration stands there, is of the form, and nothing disturbs its reading, which ends at these places
-pub record IsQuietReading (old now : Places) (tells : List ℕ → Type 0) (file : List ℕ) : Type 0 where
-  pub told : tells (folder_of file)
-  pub still : Rose (place_at old (folder_of file)).faults (place_at now (folder_of file)).faults → ⊥
-  pub unedited : Evolves IsInside (place_at old (folder_of file)).state (place_at now (folder_of file)).state
+-- the file of the configuration stands there and comes to a job, and nothing disturbs its reading, which ends at these places
+pub record IsQuietReading (old now : Places) (tells : List ℕ → Type 0) (wanted : Wanted) : Type 0 where
+  pub told : tells (folder_of wanted.file)
+  pub still : Rose (place_at old (folder_of wanted.file)).faults (place_at now (folder_of wanted.file)).faults → ⊥
+  pub unedited : Evolves IsInside (place_at old (folder_of wanted.file)).state (place_at now (folder_of wanted.file)).state
   pub bytes : List ℕ
-  pub stands : fin.get ((place_at old (folder_of file)).state).files (name_of file) ≡ Some bytes
+  pub stands : fin.get ((place_at old (folder_of wanted.file)).state).files (name_of wanted.file) ≡ Some bytes
   pub fits : length bytes ≤ config_limit
-  pub value : ConfigValue
-  pub is_config : IsConfig (lines_of bytes) value
+  pub job : SyncJob
+  pub comes : comes_to wanted bytes ≡ Ok (Some job)
 
 -- a job over three places that differ is ready, and its run is quiet
 pub record IsCleanJob (old new : Places) (tells : List ℕ → Type 0) (job : Job) (report : Report) : Type 0 where
@@ -49,27 +49,33 @@ pub record IsCleanJob (old new : Places) (tells : List ℕ → Type 0) (job : Jo
   pub quiet : IsQuietJob old new job
   pub rows_fit : RowsFit old new job report
 
--- valid words, a valid configuration, and a ready job, all of them undisturbed
-abbrev pub IsUndisturbed : (old new : Places) (tells tells' : List ℕ → Type 0) (asked : WordsValue) (ended : Ended) → Did old new tells tells' asked ended → Type 0
-IsUndisturbed old new tells tells' asked WrongWords did = ⊥
-IsUndisturbed old new tells tells' asked HelpAsked did = ⊥
-IsUndisturbed old new tells tells' asked (ConfigRefused file e) did = IsQuietReading old new tells file
-IsUndisturbed old new tells tells' asked OutOfMemory did = Unit {0}
-IsUndisturbed old new tells tells' asked (JobEnded config report) did = IsQuietReading old did.1 tells did.0 × IsCleanJob did.1 new tells (job_of config) report
+-- valid words, a configuration that comes to a job, and that job ready, all of them undisturbed
+abbrev pub IsUndisturbed : (old new : Places) (tells tells' : List ℕ → Type 0) (what : Asked) (ended : Ended) → Did old new tells tells' what ended → Type 0
+IsUndisturbed old new tells tells' what WrongWords did = ⊥
+IsUndisturbed old new tells tells' what HelpAsked did = ⊥
+IsUndisturbed old new tells tells' what (WordsRefused line) did = ⊥
+IsUndisturbed old new tells tells' what (FileRefused wanted e) did = IsQuietReading old new tells wanted
+IsUndisturbed old new tells tells' what (ConfigRefused wanted r) did = IsQuietReading old new tells wanted
+IsUndisturbed old new tells tells' what (NothingChosen wanted) did = IsQuietReading old new tells wanted
+IsUndisturbed old new tells tells' what OutOfMemory did = Unit {0}
+IsUndisturbed old new tells tells' what (JobEnded wanted job report) did = IsQuietReading old did.0 tells wanted × IsCleanJob did.0 new tells (job_of job) report
 
 -- the job of the run is clean: in sync without lines, both sides and the rows at what each ident is due
-abbrev pub LeavesClean : (old new : Places) (tells tells' : List ℕ → Type 0) (asked : WordsValue) (ended : Ended) → Did old new tells tells' asked ended → Type 0
-LeavesClean old new tells tells' asked WrongWords did = ⊥
-LeavesClean old new tells tells' asked HelpAsked did = ⊥
-LeavesClean old new tells tells' asked (ConfigRefused file e) did = ⊥
-LeavesClean old new tells tells' asked OutOfMemory did = ⊥
-LeavesClean old new tells tells' asked (JobEnded config report) did =
-    (rows : List Row) × ((status_of_job did.1 (job_of config)).kept ≡ Ok rows) × IsClean (side_a did.1 (job_of config)) (side_a new (job_of config)) (side_b did.1 (job_of config)) (side_b new (job_of config)) rows (status_of_job new (job_of config)) report.end report.lines.items
+abbrev pub LeavesClean : (old new : Places) (tells tells' : List ℕ → Type 0) (what : Asked) (ended : Ended) → Did old new tells tells' what ended → Type 0
+LeavesClean old new tells tells' what WrongWords did = ⊥
+LeavesClean old new tells tells' what HelpAsked did = ⊥
+LeavesClean old new tells tells' what (WordsRefused line) did = ⊥
+LeavesClean old new tells tells' what (FileRefused wanted e) did = ⊥
+LeavesClean old new tells tells' what (ConfigRefused wanted r) did = ⊥
+LeavesClean old new tells tells' what (NothingChosen wanted) did = ⊥
+LeavesClean old new tells tells' what OutOfMemory did = ⊥
+LeavesClean old new tells tells' what (JobEnded wanted job report) did =
+    (rows : List Row) × ((status_of_job did.0 (job_of job)).kept ≡ Ok rows) × IsClean (side_a did.0 (job_of job)) (side_a new (job_of job)) (side_b did.0 (job_of job)) (side_b new (job_of job)) rows (status_of_job new (job_of job)) report.end report.lines.items
 
 -- one run of the program: where it is undisturbed and the sinks are still, it prints nothing, answers 0 and leaves its job clean; or it answers 3
-pub record CompleteRun (old new : Places) (tells tells' : List ℕ → Type 0) (asked : WordsValue) (PrintsOut PrintsErr : List ℕ → Cut → Type 0) (AreStill AreSilent : Type 0) (result : ℕ) : Type 0 where
-  pub run : WordsRun old new tells tells' asked PrintsOut PrintsErr result
-  pub complete : AreStill → IsUndisturbed old new tells tells' asked run.ended run.did → (result ≡ 3) ⊎ ((result ≡ 0) × AreSilent × LeavesClean old new tells tells' asked run.ended run.did)
+pub record CompleteRun (old new : Places) (tells tells' : List ℕ → Type 0) (what : Asked) (PrintsOut PrintsErr : List ℕ → Cut → Type 0) (AreStill AreSilent : Type 0) (result : ℕ) : Type 0 where
+  pub run : WordsRun old new tells tells' what PrintsOut PrintsErr result
+  pub complete : AreStill → IsUndisturbed old new tells tells' what run.ended run.did → (result ≡ 3) ⊎ ((result ≡ 0) × AreSilent × LeavesClean old new tells tells' what run.ended run.did)
 
 -- no count of the sinks rose
 abbrev pub SinkIsStill : {S : Type 0} → (S → ℕ) → S → S → Type 0

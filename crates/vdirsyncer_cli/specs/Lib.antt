@@ -3,10 +3,8 @@ pub mod Opened
 pub mod Places
 pub mod Printing
 pub mod SamePlace
-pub mod Configs
-pub mod Paths
-pub mod Texts
-pub mod Words
+pub mod Files
+pub mod Asked
 pub mod Jobs
 pub mod ConfigRead
 pub mod Runs

@@ -1,54 +1,84 @@
 -- What a run of the program does: its places, what it prints, and its status (this project's own).
-use Rattle.std.specs.Prelude.{◌≡◌, ◌≢◌, ◌⊎◌, ℕ, true, false, List, [], Result, Ok, Err, codes}
+use Rattle.std.specs.Prelude.{◌≡◌, ◌≢◌, ◌⊎◌, ℕ, true, false, List, [], ◌∷◌, Option, Some, None, Result, Ok, Err, codes}
 use Rattle.outside.specs.Places.{IsSame, StayTold}
 use Rattle.sync_plan.specs.declared.report.Report.{Report}
-use Rattle.vdirsyncer_cli.specs.declared.config.JobConfig.{JobConfig}
-use Rattle.vdirsyncer_cli.specs.declared.config.ConfigError.{ConfigError}
-use Rattle.vdirsyncer_cli.specs.declared.config.ConfigError.TheVariants as config_error
+use Rattle.cli_jobs.specs.declared.job.SyncJob.{SyncJob}
+use Rattle.cli_jobs.specs.declared.refusal.Refusal.{Refusal}
+use Rattle.cli_jobs.specs.declared.refusal.Refusal.TheVariants as refusal
+use Rattle.cli_jobs.specs.Jobs.{job_of as job_in}
+use Rattle.cli_jobs.specs.Texts.{refusal_text}
+use Rattle.cli_text.specs.Texts.{report_text}
+use Rattle.cli_text.specs.Exits.{exit_status}
+use Rattle.cli_words.specs.Usage.{usage}
+use Rattle.vdirsyncer_cli.specs.declared.asked.Asked.{Asked}
+use Rattle.vdirsyncer_cli.specs.declared.asked.Asked.TheVariants as asked
+use Rattle.vdirsyncer_cli.specs.declared.asked.Wanted.{Wanted}
+use Rattle.vdirsyncer_cli.specs.declared.file_error.FileError.{FileError}
+use Rattle.vdirsyncer_cli.specs.declared.file_error.FileError.TheVariants as file_error
 use Rattle.vdirsyncer_cli.specs.declared.job.Cut.{Cut}
 use Rattle.vdirsyncer_cli.specs.declared.job.Cut.TheVariants.{Whole, WriteFault, Starved}
 use Rattle.vdirsyncer_cli.specs.declared.job.Job.{Job}
-use Rattle.vdirsyncer_cli.specs.Words.{WordsValue, usage}
-use Rattle.vdirsyncer_cli.specs.Words.WordsValue.{help, sync, wrong}
-use Rattle.vdirsyncer_cli.specs.Words.{folder_of, name_of}
-use Rattle.vdirsyncer_cli.specs.Paths.{normalised, status_place}
-use Rattle.vdirsyncer_cli.specs.Texts.{report_text, config_text, exit_status}
+use Rattle.vdirsyncer_cli.specs.Files.{folder_of, name_of, file_text}
 use Rattle.vdirsyncer_cli.specs.Places.{Places}
-use Rattle.vdirsyncer_cli.specs.ConfigRead.{ConfigRead}
+use Rattle.vdirsyncer_cli.specs.ConfigRead.{FileRead}
 use Rattle.vdirsyncer_cli.specs.Jobs.{JobAt}
 
--- how a run ended: by its words, by its configuration, by a want of memory outside the job, or with the job's report
+-- how a run ended: by its words, by what can't be done, by the file of its configuration, by what that says, with nothing chosen,
+-- by a want of memory outside the job, or with the job's report
 pub data Ended : Type 0 where
   WrongWords : Ended
   HelpAsked : Ended
-  ConfigRefused : List ℕ → ConfigError → Ended
+  WordsRefused : List ℕ → Ended
+  FileRefused : Wanted → FileError → Ended
+  ConfigRefused : Wanted → Refusal → Ended
+  NothingChosen : Wanted → Ended
   OutOfMemory : Ended
-  JobEnded : JobConfig → Report → Ended
+  JobEnded : Wanted → SyncJob → Report → Ended
 
--- the job that a configuration names
-abbrev pub job_of : JobConfig → Job
-job_of c = record { a = normalised c.path_a; b = normalised c.path_b; status = status_place c.status c.pair; ending_a = c.ending_a; ending_b = c.ending_b }
+-- the places of a job
+abbrev pub job_of : SyncJob → Job
+job_of j = record { a = j.a; b = j.b; status = j.status; ending_a = j.ending_a; ending_b = j.ending_b }
 
--- the file of the configuration, as the words name it, was read with this answer
-pub record ReadsConfig (old between : Places) (tells : List ℕ → Type 0) (asked : WordsValue) (file : List ℕ) (answer : Result JobConfig ConfigError) : Type 0 where
-  pub is_asked : asked ≡ sync file
-  pub read : ConfigRead old between tells (folder_of file) (name_of file) answer
+-- what a configuration of these bytes comes to, for what is wanted
+abbrev pub comes_to : Wanted → List ℕ → Result (Option SyncJob) Refusal
+comes_to wanted bytes = job_in wanted.names wanted.home bytes
+
+-- the file of the configuration, as it is asked for, was read with this answer
+pub record ReadsFile (old between : Places) (tells : List ℕ → Type 0) (what : Asked) (wanted : Wanted) (answer : Result (List ℕ) FileError) : Type 0 where
+  pub is_asked : what ≡ asked.Run wanted
+  pub read : FileRead old between tells (folder_of wanted.file) (name_of wanted.file) answer
+
+-- the file was read, and its bytes come to this
+pub record ComesTo (old between : Places) (tells : List ℕ → Type 0) (what : Asked) (wanted : Wanted) (answer : Result (Option SyncJob) Refusal) : Type 0 where
+  pub bytes : List ℕ
+  pub reads : ReadsFile old between tells what wanted (Ok bytes)
+  pub comes : comes_to wanted bytes ≡ answer
+
+-- the file was read, or the run ended before
+abbrev pub ReadsOrNot : Places → Places → (List ℕ → Type 0) → Asked → Type 0
+ReadsOrNot old new tells what = IsSame old new ⊎ ((wanted : Wanted) × (answer : Result (List ℕ) FileError) × ReadsFile old new tells what wanted answer)
 
 -- what the run did to the places
-abbrev pub Did : Places → Places → (List ℕ → Type 0) → (List ℕ → Type 0) → WordsValue → Ended → Type 0
-Did old new tells tells' asked WrongWords = (asked ≡ wrong) × IsSame old new × StayTold tells tells'
-Did old new tells tells' asked HelpAsked = (asked ≡ help) × IsSame old new × StayTold tells tells'
-Did old new tells tells' asked (ConfigRefused file e) = ReadsConfig old new tells asked file (Err e) × (e ≢ config_error.NoMemory) × StayTold tells tells'
-Did old new tells tells' asked OutOfMemory = (file : List ℕ) × (answer : Result JobConfig ConfigError) × ReadsConfig old new tells asked file answer × StayTold tells tells'
-Did old new tells tells' asked (JobEnded config report) = (file : List ℕ) × (between : Places) × ReadsConfig old between tells asked file (Ok config) × JobAt between new tells tells' (job_of config) report
+abbrev pub Did : Places → Places → (List ℕ → Type 0) → (List ℕ → Type 0) → Asked → Ended → Type 0
+Did old new tells tells' what WrongWords = (what ≡ asked.Wrong) × IsSame old new × StayTold tells tells'
+Did old new tells tells' what HelpAsked = (what ≡ asked.Help) × IsSame old new × StayTold tells tells'
+Did old new tells tells' what (WordsRefused line) = (what ≡ asked.Refused line) × IsSame old new × StayTold tells tells'
+Did old new tells tells' what (FileRefused wanted e) = ReadsFile old new tells what wanted (Err e) × (e ≢ file_error.NoMemory) × StayTold tells tells'
+Did old new tells tells' what (ConfigRefused wanted r) = ComesTo old new tells what wanted (Err r) × (r ≢ refusal.NoMemory) × StayTold tells tells'
+Did old new tells tells' what (NothingChosen wanted) = ComesTo old new tells what wanted (Ok None) × StayTold tells tells'
+Did old new tells tells' what OutOfMemory = ReadsOrNot old new tells what × StayTold tells tells'
+Did old new tells tells' what (JobEnded wanted job report) = (between : Places) × ComesTo old between tells what wanted (Ok (Some job)) × JobAt between new tells tells' (job_of job) report
 
 -- what is printed on the sink for output
 abbrev pub out_text : Ended → List ℕ
 out_text WrongWords = []
 out_text HelpAsked = usage
-out_text (ConfigRefused file e) = []
+out_text (WordsRefused line) = []
+out_text (FileRefused wanted e) = []
+out_text (ConfigRefused wanted r) = []
+out_text (NothingChosen wanted) = []
 out_text OutOfMemory = []
-out_text (JobEnded config report) = report_text config.pair report
+out_text (JobEnded wanted job report) = report_text job.pair report
 
 abbrev pub memory_line : List ℕ
 memory_line = codes "out of memory\n"
@@ -63,9 +93,12 @@ after_job WriteFault = []
 abbrev pub err_text : Ended → Cut → List ℕ
 err_text WrongWords cut = usage
 err_text HelpAsked cut = []
-err_text (ConfigRefused file e) cut = config_text file e
+err_text (WordsRefused line) cut = line
+err_text (FileRefused wanted e) cut = file_text wanted.file e
+err_text (ConfigRefused wanted r) cut = refusal_text r
+err_text (NothingChosen wanted) cut = []
 err_text OutOfMemory cut = memory_line
-err_text (JobEnded config report) cut = after_job cut
+err_text (JobEnded wanted job report) cut = after_job cut
 
 -- 0 where the text was written whole, else 1
 abbrev pub cut_status : Cut → ℕ
@@ -75,34 +108,37 @@ cut_status Starved = 3
 
 -- the exit status of a job's report, by what became of its text
 abbrev pub job_status : Report → Cut → ℕ
-job_status report Whole = exit_status report false
-job_status report WriteFault = exit_status report true
+job_status report Whole = exit_status (report ∷ []) false
+job_status report WriteFault = exit_status (report ∷ []) true
 job_status report Starved = 3
 
 abbrev pub status_of : Ended → Cut → ℕ
 status_of WrongWords cut = 2
 status_of HelpAsked cut = cut_status cut
-status_of (ConfigRefused file e) cut = 1
+status_of (WordsRefused line) cut = 1
+status_of (FileRefused wanted e) cut = 1
+status_of (ConfigRefused wanted r) cut = 1
+status_of (NothingChosen wanted) cut = 0
 status_of OutOfMemory cut = 3
-status_of (JobEnded config report) cut = job_status report cut
+status_of (JobEnded wanted job report) cut = job_status report cut
 
 -- one run of the program: what it did to the places, what it printed, and its status.
 -- `PrintsOut` and `PrintsErr` say of a text that it was printed there, whole or cut short
-pub record WordsRun (old new : Places) (tells tells' : List ℕ → Type 0) (asked : WordsValue) (PrintsOut PrintsErr : List ℕ → Cut → Type 0) (result : ℕ) : Type 0 where
+pub record WordsRun (old new : Places) (tells tells' : List ℕ → Type 0) (what : Asked) (PrintsOut PrintsErr : List ℕ → Cut → Type 0) (result : ℕ) : Type 0 where
   pub ended : Ended
   pub out_cut : Cut
   pub err_cut : Cut
-  pub did : Did old new tells tells' asked ended
+  pub did : Did old new tells tells' what ended
   pub printed : PrintsOut (out_text ended) out_cut
   pub told : PrintsErr (err_text ended out_cut) err_cut
   pub not_starved : err_cut ≢ Starved
   pub status : result ≡ status_of ended out_cut
 
--- what follows a configuration that was refused: its text, or a want of memory
-pub record Refuses (file : List ℕ) (error : ConfigError) (PrintsErr : List ℕ → Cut → Type 0) (result : ℕ) : Type 0 where
+-- what follows a refusal: its line, or a want of memory
+pub record Refuses (IsStarved : Type 0) (line : List ℕ) (PrintsErr : List ℕ → Cut → Type 0) (result : ℕ) : Type 0 where
   pub cut : Cut
   pub not_starved : cut ≢ Starved
-  pub told : ((error ≢ config_error.NoMemory) × PrintsErr (config_text file error) cut × (result ≡ 1)) ⊎ (PrintsErr memory_line cut × (result ≡ 3))
+  pub told : ((IsStarved → ⊥) × PrintsErr line cut × (result ≡ 1)) ⊎ (PrintsErr memory_line cut × (result ≡ 3))
 
 -- what follows a job: its report is printed, and a want of memory before that is told
 pub record Finishes (name : List ℕ) (report : Report) (PrintsOut PrintsErr : List ℕ → Cut → Type 0) (result : ℕ) : Type 0 where

@@ -1,19 +1,19 @@
-//! The command line: its words, its configuration, its printed texts, and the top call.
+//! The top call: the words, the configuration, one job, and what is printed.
 #![tactic(auto)]
 
-mod config;
+mod asked;
 mod config_read;
 mod either;
+mod env;
+mod file_error;
+mod files;
 mod job;
 mod naming;
 mod one_job;
 mod opened;
-mod paths;
 mod printing;
-mod reader;
-mod texts;
 mod top_call;
-mod words;
 
 pub use either::Either;
-pub use top_call::{Env, run_words};
+pub use env::Env;
+pub use top_call::run_words;

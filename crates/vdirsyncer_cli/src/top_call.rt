@@ -1,36 +1,34 @@
 //! The top call.
 
 ghost use Rattle.std.specs.Prelude.{◌≡◌};
+ghost use Rattle.std.specs.Option.{option_copied};
 ghost use Rattle.outside.specs.Places.{IsWhole};
+ghost use Rattle.cli_jobs.specs.Answers.{Comes};
+ghost use Rattle.cli_jobs.specs.Texts.{refusal_text};
+ghost use Rattle.cli_jobs.specs.declared.refusal.Refusal.TheVariants as refusal;
+ghost use Rattle.cli_words.specs.Words.{meaning_of};
+ghost use Rattle.vdirsyncer_cli.specs.Asked.{asked_of};
 ghost use Rattle.vdirsyncer_cli.specs.CleanRuns.{CompleteRun, SinkIsStill, SinkIsSilent};
+ghost use Rattle.vdirsyncer_cli.specs.Files.{file_text};
 ghost use Rattle.vdirsyncer_cli.specs.Printing.{Prints};
-ghost use Rattle.vdirsyncer_cli.specs.Runs.{WordsRun, Refuses, Finishes, TellsStarved, cut_status, job_status};
-ghost use Rattle.vdirsyncer_cli.specs.Words.{words_of};
-ghost use Rattle.vdirsyncer_cli.specs.Words.WordsValue.{sync};
+ghost use Rattle.vdirsyncer_cli.specs.Runs.{WordsRun, Refuses, Finishes, TellsStarved, cut_status, job_status, comes_to};
 
-use crate::config::ConfigError;
+use crate::asked::{Asked, Wanted, asked_of};
 use crate::config_read::read_through;
+use crate::env::Env;
+use crate::file_error::{FileError, file_text};
 use crate::job::Cut;
-use crate::naming::job_of;
+use crate::naming::places_of;
 use crate::one_job::run_job;
 use crate::printing::print;
-use crate::texts::{config_text, exit_status, report_text};
-use crate::words::{Words, read_words, usage};
+use cli_jobs::{Refusal, SyncJob, job_of, refusal_text};
+use cli_text::{exit_status, report_text};
+use cli_words::usage;
 use outside::{NoMemory, Outfit, Sink, Source};
 use std::alloc::Global;
+use std::slice::from_ref;
 use sync_plan::Report;
-use values::Text;
-
-/// What the program takes from its environment.
-#[derive(Debug, Drop)]
-pub struct Env {
-    /// The home folder of the user.
-    pub home: Option<Text>,
-    /// The folder of configurations, by the XDG base directory specification.
-    pub xdg_config: Option<Text>,
-    /// The configuration file, by the variable of this program's own.
-    pub vdirsyncer_config: Option<Text>,
-}
+use values::{Bytes, Text};
 
 /// Tells a want of memory outside a job.
 fn tell_starved<E: Sink>(err: &mut E) -> u8
@@ -56,19 +54,35 @@ fn status_of_job(report: &Report, cut: Cut) -> u8
     ensures { result ≡ job_status report.now cut }
 {
     match cut {
-        Cut::Whole => exit_status(report, false),
-        Cut::WriteFault => exit_status(report, true),
+        Cut::Whole => exit_status(from_ref(report), false),
+        Cut::WriteFault => exit_status(from_ref(report), true),
         Cut::Starved => 3,
     }
 }
 
-/// Tells why a configuration was refused.
-fn refuse<E: Sink>(alloc: Global, file: &str, error: ConfigError, err: &mut E) -> u8
-    ensures { Refuses file.now error (Prints E.count E.tells E.held err.old err.new) result }
+/// Tells why the file of the configuration can't be read.
+fn refuse_file<E: Sink>(alloc: Global, file: &str, error: FileError, err: &mut E) -> u8
+    ensures { Refuses (error ≡ FileError.NoMemory) (file_text file.now error) (Prints E.count E.tells E.held err.old err.new) result }
 {
     match error {
-        ConfigError::NoMemory => tell_starved(err),
-        error => match config_text(alloc, file, &error) {
+        FileError::NoMemory => tell_starved(err),
+        error => match file_text(alloc, file, &error) {
+            Ok(text) => {
+                let _ = print(err, text.as_str());
+                1
+            }
+            Err(NoMemory) => tell_starved(err),
+        },
+    }
+}
+
+/// Tells why there is no job.
+fn refuse<E: Sink>(alloc: Global, reason: Refusal, err: &mut E) -> u8
+    ensures { Refuses (reason ≡ refusal.NoMemory) (refusal_text reason) (Prints E.count E.tells E.held err.old err.new) result }
+{
+    match reason {
+        Refusal::NoMemory => tell_starved(err),
+        reason => match refusal_text(alloc, &reason) {
             Ok(text) => {
                 let _ = print(err, text.as_str());
                 1
@@ -97,30 +111,84 @@ fn finish<S: Sink, E: Sink>(
     }
 }
 
+fn home_of(wanted: &Wanted) -> Option<&str>
+    ensures { option_copied result ≡ wanted.now.home }
+{
+    match &wanted.home {
+        Some(home) => Some(home.as_str()),
+        None => None,
+    }
+}
+
+/// The job that is wanted of a configuration.
+fn chosen(alloc: Global, wanted: &Wanted, bytes: &Bytes) -> Result<Option<SyncJob>, Refusal>
+    ensures { Comes (comes_to wanted.now bytes.now) result }
+{
+    job_of(
+        alloc,
+        wanted.names.as_slice(),
+        home_of(wanted),
+        bytes.as_slice(),
+    )
+}
+
 /// Reads the configuration and runs its job.
 fn sync<O: Outfit, S: Sink, E: Sink>(
     alloc: Global,
-    file: &str,
+    wanted: &Wanted,
     outfit: &mut O,
     out: &mut S,
     err: &mut E,
 ) -> u8
     requires { IsWhole (O.places outfit.old) }
     ensures whole { IsWhole (O.places outfit.new) }
-    ensures run { WordsRun (O.places outfit.old) (O.places outfit.new) (O.tells outfit.old) (O.tells outfit.new) (sync file.now)
+    ensures run { WordsRun (O.places outfit.old) (O.places outfit.new) (O.tells outfit.old) (O.tells outfit.new) (Asked.Run wanted.now)
         (Prints S.count S.tells S.held out.old out.new) (Prints E.count E.tells E.held err.old err.new) result }
 {
-    let config = match read_through(alloc, file, outfit) {
-        Ok(config) => config,
-        Err(error) => return refuse(alloc, file, error, err),
+    let file = wanted.file.as_str();
+    let bytes = match read_through(file, outfit) {
+        Ok(bytes) => bytes,
+        Err(error) => return refuse_file(alloc, file, error, err),
     };
-    let job = match job_of(alloc, &config) {
-        Ok(job) => job,
-        Err(NoMemory) => return tell_starved(err),
+    let found = match chosen(alloc, wanted, &bytes) {
+        Ok(found) => found,
+        Err(reason) => return refuse(alloc, reason, err),
     };
+    let job = match found {
+        Some(job) => job,
+        None => return 0,
+    };
+    let (pair, job) = places_of(job);
     match run_job(alloc, job, outfit) {
-        Ok(report) => finish(alloc, config.pair.as_str(), &report, out, err),
+        Ok(report) => finish(alloc, pair.as_str(), &report, out, err),
         Err(NoMemory) => tell_starved(err),
+    }
+}
+
+/// Does what is asked.
+fn obey<O: Outfit, S: Sink, E: Sink>(
+    alloc: Global,
+    what: &Asked,
+    outfit: &mut O,
+    out: &mut S,
+    err: &mut E,
+) -> u8
+    requires { IsWhole (O.places outfit.old) }
+    ensures whole { IsWhole (O.places outfit.new) }
+    ensures run { WordsRun (O.places outfit.old) (O.places outfit.new) (O.tells outfit.old) (O.tells outfit.new) what.now
+        (Prints S.count S.tells S.held out.old out.new) (Prints E.count E.tells E.held err.old err.new) result }
+{
+    match what {
+        Asked::Wrong => {
+            let _ = print(err, usage());
+            2
+        }
+        Asked::Help => status_of_cut(print(out, usage())),
+        Asked::Refused(line) => {
+            let _ = print(err, line.as_str());
+            1
+        }
+        Asked::Run(wanted) => sync(alloc, wanted, outfit, out, err),
     }
 }
 
@@ -128,32 +196,30 @@ fn sync<O: Outfit, S: Sink, E: Sink>(
 fn do_words<O: Outfit, S: Sink, E: Sink>(
     alloc: Global,
     words: &[Text],
+    env: &Env,
     outfit: &mut O,
     out: &mut S,
     err: &mut E,
 ) -> u8
     requires { IsWhole (O.places outfit.old) }
     ensures whole { IsWhole (O.places outfit.new) }
-    ensures run { WordsRun (O.places outfit.old) (O.places outfit.new) (O.tells outfit.old) (O.tells outfit.new) (words_of words.now)
+    ensures run { WordsRun (O.places outfit.old) (O.places outfit.new) (O.tells outfit.old) (O.tells outfit.new) (asked_of env.now (meaning_of words.now))
         (Prints S.count S.tells S.held out.old out.new) (Prints E.count E.tells E.held err.old err.new) result }
 {
-    match read_words(words) {
-        Words::Wrong => {
-            let _ = print(err, usage());
-            2
-        }
-        Words::Help => status_of_cut(print(out, usage())),
-        Words::Sync { file } => sync(alloc, file, outfit, out, err),
+    match asked_of(alloc, words, env) {
+        Ok(what) => obey(alloc, &what, outfit, out, err),
+        Err(NoMemory) => tell_starved(err),
     }
 }
 
 /// Runs the program: reads the words and the configuration, runs the job, prints its report, and answers the exit
-/// status: 0 where the job is in sync without lines, 1 where not or where a write to `out` failed, 2 for wrong words,
-/// 3 for want of memory. The environment and the input serve words that are not built yet.
+/// status: 0 where the job is in sync without lines or no pair is chosen, 1 where not, where something was refused, or
+/// where a write to `out` failed, 2 for wrong words, 3 for want of memory. The input serves words that are not built
+/// yet.
 pub fn run_words<O: Outfit, I: Source, S: Sink, E: Sink>(
     alloc: Global,
     words: &[Text],
-    _env: &Env,
+    env: &Env,
     outfit: &mut O,
     _input: &mut I,
     out: &mut S,
@@ -161,12 +227,12 @@ pub fn run_words<O: Outfit, I: Source, S: Sink, E: Sink>(
 ) -> u8
     requires { IsWhole (O.places outfit.old) }
     ensures whole { IsWhole (O.places outfit.new) }
-    ensures run { WordsRun (O.places outfit.old) (O.places outfit.new) (O.tells outfit.old) (O.tells outfit.new) (words_of words.now)
+    ensures run { WordsRun (O.places outfit.old) (O.places outfit.new) (O.tells outfit.old) (O.tells outfit.new) (asked_of env.now (meaning_of words.now))
         (Prints S.count S.tells S.held out.old out.new) (Prints E.count E.tells E.held err.old err.new) result }
-    ensures complete { CompleteRun (O.places outfit.old) (O.places outfit.new) (O.tells outfit.old) (O.tells outfit.new) (words_of words.now)
+    ensures complete { CompleteRun (O.places outfit.old) (O.places outfit.new) (O.tells outfit.old) (O.tells outfit.new) (asked_of env.now (meaning_of words.now))
         (Prints S.count S.tells S.held out.old out.new) (Prints E.count E.tells E.held err.old err.new)
         (SinkIsStill S.count out.old out.new × SinkIsStill E.count err.old err.new)
         (SinkIsSilent S.tells S.held out.old out.new × SinkIsSilent E.tells E.held err.old err.new) result }
 {
-    do_words(alloc, words, outfit, out, err)
+    do_words(alloc, words, env, outfit, out, err)
 }

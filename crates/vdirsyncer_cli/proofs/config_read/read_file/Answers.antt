@@ -1,6 +1,3 @@
-use Rattle.std.proofs.Common.{inl}
-use Rattle.vdirsyncer_cli.proofs.ConfigLaws.{file_says, reader_faults_not}
-use Rattle.vdirsyncer_cli.proofs.Endings.{endings_read}
 use Rattle.vdirsyncer_cli.proofs.config_read.read_file.Goals as goal
 
 pub returns-in-Ok-Some-clause-step : goal.returns-in-Ok-Some-clause-step
@@ -8,14 +5,11 @@ returns-in-Ok-Some-clause-step g c =
     let answer = rw c.in-Ok-Some.field-0-is at c.in-Ok-Some.ensures.answer in
     record {
       later = c.read.ensures.changes.later;
-      cause = λ is. absurd (reader_faults_not _ _ c.read_config.ensures.err is);
+      cause = λ is. absurd (cc);
       told = λ told.
           let at = answer told in
-          record { moment = at.moment; edits = at.edits; does = file_says at.moment _ c.args.name.now c.in-Ok-Some.bytes.items c.deref.result.now c.read_config.result c.deref.ensures.value at.does.0 at.does.1 at.does.2 c.read_config.ensures.ok c.read_config.ensures.err };
+          record { moment = at.moment; edits = at.edits; does = rw c.of.ensures (record { stood = at.does.0; fits = at.does.1; was_read = at.does.2 }) };
     }
-
-pub returns-in-Ok-Some-clause-endings : goal.returns-in-Ok-Some-clause-endings
-returns-in-Ok-Some-clause-endings g c = endings_read _ c.read_config.result c.read_config.ensures.ok
 
 pub returns-in-Ok-None-clause-step : goal.returns-in-Ok-None-clause-step
 returns-in-Ok-None-clause-step g c =
@@ -51,5 +45,5 @@ returns-in-Err-NoMemory-clause-step g c =
     record {
       later = c.read.ensures.changes.later;
       cause = λ is. absurd (cc);
-      told = λ told. let at = answer told in record { moment = at.moment; edits = at.edits; does = inl at.does };
+      told = λ told. let at = answer told in record { moment = at.moment; edits = at.edits; does = at.does };
     }

@@ -10,9 +10,9 @@ returns-clause-read g c =
     let opened = rw c.in-Ok-Some.field-0-is at c.in-Ok-Some.ensures.opened in
     let told = rw c.in-Ok-Some.field-0-is at c.in-Ok-Some.ensures.told in
     read_named _ _ _ _ _ _ _ _ c.folder_of-folder.ensures c.name_of.ensures
-    (read_and_back _ _ _ _ _ _ _ _ _ _ opened.0 opened.1 c.give_dir.ensures.given told.0 c.read_file-config.ensures.step)
+    (read_and_back _ _ _ _ _ _ _ _ _ _ opened.0 opened.1 c.give_dir.ensures.given told.0 c.read_file-bytes.ensures.step)
 
 pub returns-clause-stay_told : goal.returns-clause-stay_told
 returns-clause-stay_told g c =
     let told = rw c.in-Ok-Some.field-0-is at c.in-Ok-Some.ensures.told in
-    told_back _ _ _ _ _ _ (λ at. c.read_file-config.ensures.told (told.0 at)) told.1 (λ q h. h) c.give_dir.ensures.told
+    told_back _ _ _ _ _ _ (λ at. c.read_file-bytes.ensures.told (told.0 at)) told.1 (λ q h. h) c.give_dir.ensures.told

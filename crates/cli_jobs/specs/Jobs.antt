@@ -1,0 +1,75 @@
+-- The job that a configuration comes to, by the names of the words and the home (this project's own).
+use Rattle.std.specs.Prelude.{ℕ, false, List, ◌++◌, codes, Option, Some, None, Result, Ok, Err}
+use Rattle.std.specs.List.{find}
+use Rattle.std.specs.Str.{bytes_eq}
+use Rattle.cli_words.specs.declared.words.Name.{Name}
+use Rattle.config_ini.specs.declared.error.ConfigError.TheVariants.{NoStorage}
+use Rattle.config_model.specs.Reading.{config_of}
+use Rattle.config_model.specs.declared.config.Config.{Config}
+use Rattle.config_model.specs.declared.config.PairConf.{PairConf}
+use Rattle.config_model.specs.declared.config.StorageConf.{StorageConf}
+use Rattle.config_settle.specs.Paths.{normalised}
+use Rattle.config_settle.specs.Settling.{settled_of, status_of}
+use Rattle.config_settle.specs.declared.settled.Settled.{Settled}
+use Rattle.config_settle.specs.declared.settled.Settled.TheVariants.{Vdir, Single, Dav}
+use Rattle.cli_jobs.specs.declared.job.SyncJob.{SyncJob}
+use Rattle.cli_jobs.specs.declared.job.Vdir.{Vdir as Folder}
+use Rattle.cli_jobs.specs.declared.refusal.Refusal.{Refusal}
+use Rattle.cli_jobs.specs.declared.refusal.Refusal.TheVariants.{Unusable, NotBuilt}
+use Rattle.cli_jobs.specs.Answers.{lifted, ◌>>=◌, unless_found}
+use Rattle.cli_jobs.specs.Names.{first_unknown, one_chosen}
+use Rattle.cli_jobs.specs.Built.{unbuilt_pair, unbuilt_storage, unbuilt_fetch, storage_section}
+
+-- where the status of a pair is kept: STATUS/PAIR/.null
+unfoldable pub status_place : List ℕ → List ℕ → List ℕ
+status_place status pair = normalised (status ++ codes "/" ++ pair ++ codes "/.null")
+
+abbrev pub storage_by : List ℕ → List ℕ → Option StorageConf → Result StorageConf Refusal
+storage_by pair name None = Err (Unusable (NoStorage pair name))
+storage_by pair name (Some storage) = Ok storage
+
+-- the storage of this name
+unfoldable pub storage_at : List StorageConf → List ℕ → List ℕ → Result StorageConf Refusal
+storage_at storages pair name = storage_by pair name (find (λ s. bytes_eq s.name name) storages)
+
+-- folders alone are built
+abbrev pub folder_in : List ℕ → Settled → Result Folder Refusal
+folder_in section (Vdir path ending post pre) = Ok (record { path = path; ending = ending })
+folder_in section (Single path) = Err (NotBuilt section (codes "type"))
+folder_in section (Dav kind host port path username password agent) = Err (NotBuilt section (codes "type"))
+
+-- a storage's folder, where nothing is left to fetch
+unfoldable pub folder_of : Option (List ℕ) → StorageConf → Result Folder Refusal
+folder_of home storage = lifted (settled_of storage home false) >>= λ settled. folder_in (storage_section storage.name) settled
+
+abbrev pub job_over : List ℕ → List ℕ → Folder → Folder → SyncJob
+job_over status pair a b = record { pair = pair; a = a.path; b = b.path; status = status_place status pair; ending_a = a.ending; ending_b = b.ending }
+
+-- the job of a pair over two storages, of which all is built but what is fetched
+unfoldable pub settled_job : Option (List ℕ) → List ℕ → List ℕ → StorageConf → StorageConf → Result SyncJob Refusal
+settled_job home status pair a b =
+    unless_found (unbuilt_fetch a) (unless_found (unbuilt_fetch b) (folder_of home a >>= λ folder_a. folder_of home b >>= λ folder_b. Ok (job_over status pair folder_a folder_b)))
+
+-- the same, of which something may not be built
+unfoldable pub built_job : Option (List ℕ) → List ℕ → PairConf → StorageConf → StorageConf → Result SyncJob Refusal
+built_job home status pair a b =
+    unless_found (unbuilt_pair pair) (unless_found (unbuilt_storage a) (unless_found (unbuilt_storage b) (settled_job home status pair.name a b)))
+
+unfoldable pub pair_job : Option (List ℕ) → List StorageConf → List ℕ → PairConf → Result SyncJob Refusal
+pair_job home storages status pair =
+    storage_at storages pair.name pair.a >>= λ a. storage_at storages pair.name pair.b >>= λ b. built_job home status pair a b
+
+abbrev pub job_by : Option (List ℕ) → List StorageConf → List ℕ → Option PairConf → Result (Option SyncJob) Refusal
+job_by home storages status None = Ok None
+job_by home storages status (Some pair) = pair_job home storages status pair >>= λ job. Ok (Some job)
+
+-- the names are looked at behind the status path, and behind them what isn't built
+unfoldable pub chosen_job : List Name → Option (List ℕ) → Config → Result (Option SyncJob) Refusal
+chosen_job names home config =
+    lifted (status_of config.status_path home) >>= λ status.
+    unless_found (first_unknown config.pairs names)
+    (one_chosen names config.pairs >>= λ pair. job_by home config.storages status pair)
+
+-- the job that the bytes of a configuration come to; none where no pair is chosen
+unfoldable pub job_of : List Name → Option (List ℕ) → List ℕ → Result (Option SyncJob) Refusal
+job_of names home bytes = lifted (config_of bytes) >>= λ config. chosen_job names home config

@@ -1,0 +1,5 @@
+pub mod Answers
+pub mod Names
+pub mod Built
+pub mod Jobs
+pub mod Texts

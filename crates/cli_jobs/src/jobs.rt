@@ -1,0 +1,275 @@
+//! The job that a configuration comes to.
+
+ghost use Rattle.std.specs.Prelude.{◌≡◌, ◌≢◌, ◌++◌, true, false, codes, string_bytes, Ok, Err, IfOk, MatchResult};
+ghost use Rattle.std.specs.Option.{option_copied};
+ghost use Rattle.std.specs.List.{find};
+ghost use Rattle.std.specs.Str.{bytes_eq};
+ghost use Rattle.config_ini.specs.declared.error.ConfigError.TheVariants.{NoStorage};
+ghost use Rattle.config_model.specs.Reading.{config_of};
+ghost use Rattle.config_settle.specs.Settling.{settled_of, status_of};
+ghost use Rattle.config_settle.specs.Texts.{are_texts};
+ghost use Rattle.cli_jobs.specs.declared.refusal.Refusal.TheVariants.{NoMemory};
+ghost use Rattle.cli_jobs.specs.Answers.{Comes, lifted};
+ghost use Rattle.cli_jobs.specs.Built.{storage_section};
+ghost use Rattle.cli_jobs.specs.Jobs as spec;
+
+use crate::built::{are_texts, check_pair, check_storage, fetch_not_built};
+use crate::job::{SyncJob, Vdir};
+use crate::names::{check_names, one_chosen};
+use crate::refusal::Refusal;
+use crate::refused::{not_built, storage_section, unusable};
+use cli_words::Name;
+use config_ini::ConfigError;
+use config_model::{Config, PairConf, StorageConf, read_config};
+use config_settle::{Settled, normalised, settle, settle_status};
+use std::alloc::{AllocError, Global};
+use values::Text;
+
+fn read(alloc: Global, bytes: &[u8]) -> Result<Config, Refusal>
+    ensures { Comes (lifted (config_of bytes.now)) result }
+{
+    match read_config(alloc, bytes) {
+        Ok(config) => Ok(config),
+        Err(error) => Err(unusable(error)),
+    }
+}
+
+fn status_of(alloc: Global, path: &str, home: Option<&str>) -> Result<Text, Refusal>
+    ensures { Comes (lifted (status_of path.now (option_copied home.entry))) result }
+{
+    match settle_status(alloc, path, home) {
+        Ok(status) => Ok(status),
+        Err(error) => Err(unusable(error)),
+    }
+}
+
+fn settled(alloc: Global, storage: &StorageConf, home: Option<&str>) -> Result<Settled, Refusal>
+    requires { are_texts storage.now.params ≡ true }
+    ensures { Comes (lifted (settled_of storage.now (option_copied home.entry) false)) result }
+{
+    match settle(alloc, storage, home, false) {
+        Ok(settled) => Ok(settled),
+        Err(error) => Err(unusable(error)),
+    }
+}
+
+/// The folder of a storage: folders alone are built.
+fn folder_in(alloc: Global, name: &str, settled: Settled) -> Result<Vdir, Refusal>
+    ensures { Comes (spec.folder_in (storage_section name.now) settled) result }
+{
+    match settled {
+        Settled::Vdir { path, ending, .. } => Ok(Vdir { path, ending }),
+        Settled::Single { .. } => Err(other_kind(alloc, name)?),
+        Settled::Dav { .. } => Err(other_kind(alloc, name)?),
+    }
+}
+
+fn other_kind(alloc: Global, name: &str) -> Result<Refusal, AllocError>
+    ensures { IfOk result (λ r. r ≡ Refusal.NotBuilt (storage_section name.now) (codes "type")) }
+{
+    let section = storage_section(alloc, name)?;
+    not_built(alloc, section.as_str(), "type")
+}
+
+#[tactic(auto, unfolding(crate::specs::Jobs::folder_of))]
+fn folder_of(alloc: Global, home: Option<&str>, storage: &StorageConf) -> Result<Vdir, Refusal>
+    requires { are_texts storage.now.params ≡ true }
+    ensures { Comes (spec.folder_of (option_copied home.entry) storage.now) result }
+{
+    match settled(alloc, storage, home) {
+        Ok(settled) => folder_in(alloc, storage.name.as_str(), settled),
+        Err(refusal) => Err(refusal),
+    }
+}
+
+fn status_path(alloc: Global, status: &str, pair: &str) -> Result<String, AllocError>
+    ensures { IfOk result (λ t. string_bytes t ≡ status.now ++ codes "/" ++ pair.now ++ codes "/.null") }
+{
+    let mut path = String::from_str(alloc, status)?;
+    path.push_str("/")?;
+    path.push_str(pair)?;
+    path.push_str("/.null")?;
+    Ok(path)
+}
+
+/// Where the status of a pair is kept.
+#[tactic(auto, unfolding(crate::specs::Jobs::status_place))]
+fn status_place(alloc: Global, status: &str, pair: &str) -> Result<Text, AllocError>
+    ensures { IfOk result (λ place. place ≡ spec.status_place status.now pair.now) }
+{
+    let path = status_path(alloc, status, pair)?;
+    normalised(alloc, path.as_str())
+}
+
+fn job_over(
+    alloc: Global,
+    status: &str,
+    pair: &str,
+    a: Vdir,
+    b: Vdir,
+) -> Result<SyncJob, AllocError>
+    ensures { IfOk result (λ job. job ≡ spec.job_over status.now pair.now a b) }
+{
+    Ok(SyncJob {
+        pair: Text::copy_of(alloc, pair)?,
+        a: a.path,
+        b: b.path,
+        status: status_place(alloc, status, pair)?,
+        ending_a: a.ending,
+        ending_b: b.ending,
+    })
+}
+
+/// The job over two storages, of which all is built but what is fetched.
+#[tactic(auto, unfolding(crate::specs::Jobs::settled_job, crate::specs::Built::unbuilt_fetch))]
+fn settled_job(
+    alloc: Global,
+    home: Option<&str>,
+    status: &str,
+    pair: &str,
+    a: &StorageConf,
+    b: &StorageConf,
+) -> Result<SyncJob, Refusal>
+    ensures { Comes (spec.settled_job (option_copied home.entry) status.now pair.now a.now b.now) result }
+{
+    if !are_texts(a.params.as_slice()) {
+        return Err(fetch_not_built(alloc, a)?);
+    }
+    if !are_texts(b.params.as_slice()) {
+        return Err(fetch_not_built(alloc, b)?);
+    }
+    let folder_a = folder_of(alloc, home, a)?;
+    let folder_b = folder_of(alloc, home, b)?;
+    Ok(job_over(alloc, status, pair, folder_a, folder_b)?)
+}
+
+/// The same, of which something may not be built.
+#[tactic(auto, unfolding(crate::specs::Jobs::built_job))]
+fn built_job(
+    alloc: Global,
+    home: Option<&str>,
+    status: &str,
+    pair: &PairConf,
+    a: &StorageConf,
+    b: &StorageConf,
+) -> Result<SyncJob, Refusal>
+    ensures { Comes (spec.built_job (option_copied home.entry) status.now pair.now a.now b.now) result }
+{
+    check_pair(alloc, pair)?;
+    check_storage(alloc, a)?;
+    check_storage(alloc, b)?;
+    settled_job(alloc, home, status, pair.name.as_str(), a, b)
+}
+
+fn found_at<'a>(storages: &'a [StorageConf], name: &str) -> Option<&'a StorageConf>
+    ensures { option_copied result ≡ find (λ s. bytes_eq s.name name.now) storages.now }
+{
+    storages
+        .iter()
+        .find(|storage| storage.name.as_str() == name)
+}
+
+fn no_storage(alloc: Global, pair: &Text, name: &Text) -> Result<Refusal, AllocError>
+    ensures { IfOk result (λ r. r ≡ Refusal.Unusable (NoStorage pair.now name.now)) }
+{
+    let pair = Text::copy_of(alloc, pair.as_str())?;
+    let name = Text::copy_of(alloc, name.as_str())?;
+    Ok(Refusal::Unusable(ConfigError::NoStorage { pair, name }))
+}
+
+/// The storage of this name.
+#[tactic(auto, unfolding(crate::specs::Jobs::storage_at))]
+fn storage_at<'a>(
+    alloc: Global,
+    storages: &'a [StorageConf],
+    pair: &Text,
+    name: &Text,
+) -> Result<&'a StorageConf, Refusal>
+    ensures { MatchResult result (λ s. spec.storage_at storages.now pair.now name.now ≡ Ok s.now) (λ r. r ≢ NoMemory → spec.storage_at storages.now pair.now name.now ≡ Err r) }
+{
+    match found_at(storages, name.as_str()) {
+        Some(storage) => Ok(storage),
+        None => Err(no_storage(alloc, pair, name)?),
+    }
+}
+
+#[tactic(auto, unfolding(crate::specs::Jobs::pair_job))]
+fn pair_job(
+    alloc: Global,
+    home: Option<&str>,
+    storages: &[StorageConf],
+    status: &str,
+    pair: &PairConf,
+) -> Result<SyncJob, Refusal>
+    ensures { Comes (spec.pair_job (option_copied home.entry) storages.now status.now pair.now) result }
+{
+    let a = match storage_at(alloc, storages, &pair.name, &pair.a) {
+        Ok(storage) => storage,
+        Err(refusal) => return Err(refusal),
+    };
+    let b = match storage_at(alloc, storages, &pair.name, &pair.b) {
+        Ok(storage) => storage,
+        Err(refusal) => return Err(refusal),
+    };
+    built_job(alloc, home, status, pair, a, b)
+}
+
+fn job_by(
+    alloc: Global,
+    home: Option<&str>,
+    storages: &[StorageConf],
+    status: &str,
+    pair: Option<&PairConf>,
+) -> Result<Option<SyncJob>, Refusal>
+    ensures { Comes (spec.job_by (option_copied home.entry) storages.now status.now (option_copied pair.entry)) result }
+{
+    match pair {
+        None => Ok(None),
+        Some(pair) => match pair_job(alloc, home, storages, status, pair) {
+            Ok(job) => Ok(Some(job)),
+            Err(refusal) => Err(refusal),
+        },
+    }
+}
+
+#[tactic(auto, unfolding(crate::specs::Jobs::chosen_job))]
+fn chosen_job(
+    alloc: Global,
+    names: &[Name],
+    home: Option<&str>,
+    config: &Config,
+) -> Result<Option<SyncJob>, Refusal>
+    ensures { Comes (spec.chosen_job names.now (option_copied home.entry) config.now) result }
+{
+    let status = status_of(alloc, config.status_path.as_str(), home)?;
+    let pairs = config.pairs.as_slice();
+    check_names(alloc, pairs, names)?;
+    match one_chosen(alloc, names, pairs) {
+        Ok(pair) => job_by(
+            alloc,
+            home,
+            config.storages.as_slice(),
+            status.as_str(),
+            pair,
+        ),
+        Err(refusal) => Err(refusal),
+    }
+}
+
+/// The job that the bytes of a configuration come to, for the pair that the names choose; none where no pair is chosen.
+/// Refused in this order: what the configuration is refused for, its status path, a name that names nothing, what isn't
+/// built, and what the storages of the pair are refused for.
+#[tactic(auto, unfolding(crate::specs::Jobs::job_of))]
+pub fn job_of(
+    alloc: Global,
+    names: &[Name],
+    home: Option<&str>,
+    bytes: &[u8],
+) -> Result<Option<SyncJob>, Refusal>
+    ensures { Comes (spec.job_of names.now (option_copied home.entry) bytes.now) result }
+{
+    match read(alloc, bytes) {
+        Ok(config) => chosen_job(alloc, names, home, &config),
+        Err(refusal) => Err(refusal),
+    }
+}

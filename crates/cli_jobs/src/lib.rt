@@ -1,0 +1,15 @@
+//! What the words and a configuration come to: a job, or why there is none.
+#![tactic(auto)]
+
+mod built;
+mod job;
+mod jobs;
+mod names;
+mod refusal;
+mod refused;
+mod texts;
+
+pub use job::SyncJob;
+pub use jobs::job_of;
+pub use refusal::Refusal;
+pub use texts::refusal_text;

@@ -1,0 +1,4 @@
+pub mod Quoting
+pub mod Texts
+pub mod Configs
+pub mod Exits
