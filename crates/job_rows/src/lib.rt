@@ -1,0 +1,6 @@
+//! The rows that a run comes to, by its plan and what became of each step. Nothing calls it yet.
+#![tactic(auto)]
+
+mod finding;
+
+pub use finding::row_of;
