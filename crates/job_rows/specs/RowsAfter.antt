@@ -48,3 +48,10 @@ rows_after x rows [] firsts seconds = []
 rows_after x rows (p ∷ ps) [] seconds = []
 rows_after x rows (p ∷ ps) (f ∷ fs) [] = []
 rows_after x rows (p ∷ ps) (f ∷ fs) (g ∷ gs) = cons_option (row_after x rows p (outcome_of p.step f g)) (rows_after x rows ps fs gs)
+
+-- the row of each ident is the one before
+abbrev pub IsUnchanged : Sources → List Row → List Planned → List Outcome → List Outcome → Type 0
+IsUnchanged x rows [] firsts seconds = Unit {0}
+IsUnchanged x rows (p ∷ ps) [] seconds = Unit {0}
+IsUnchanged x rows (p ∷ ps) (f ∷ fs) [] = Unit {0}
+IsUnchanged x rows (p ∷ ps) (f ∷ fs) (g ∷ gs) = (row_after x rows p (outcome_of p.step f g) ≡ row_of (p.ident).now rows) × IsUnchanged x rows ps fs gs

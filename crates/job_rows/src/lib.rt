@@ -1,6 +1,8 @@
 //! The rows that a run comes to, by its plan and what became of each step. Nothing calls it yet.
 #![tactic(auto)]
 
+mod building;
 mod finding;
 
+pub use building::RowsAfter;
 pub use finding::row_of;

@@ -10,3 +10,4 @@ mod steps;
 
 pub use outcome::Outcome;
 pub use phases::{Outcomes, write_all};
+pub use sources::seen_at;

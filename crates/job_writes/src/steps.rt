@@ -34,6 +34,7 @@ fn copy_step<S: Store>(
 {
     match source_at(other, place) {
         Some(from) => copy_to(alloc, store, side, from),
+        // It was fetched, since its version isn't its row's: so it is always there.
         None => Err(AllocError),
     }
 }
