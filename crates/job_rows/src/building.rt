@@ -202,3 +202,36 @@ impl RowsAfter {
         Ok(())
     }
 }
+
+/// The rows that a run comes to, ident by ident in the order of its plan.
+pub fn rows_after(
+    alloc: Global,
+    rows: &[Row],
+    a: &Holding,
+    b: &Holding,
+    plan: &[Planned],
+    outcomes: &Outcomes,
+) -> Result<RowsAfter, AllocError>
+    requires rising { IsRising (row_idents rows.now) }
+    requires whole { IsWhole plan.now outcomes.now }
+    ensures rows { IfOk result (λ r. r.rows.items ≡ rows_after (sources a.now b.now) rows.now plan.now outcomes.now.put.items outcomes.now.removed.items) }
+    ensures same { IfOk result (λ r. r.changed ≡ false → IsUnchanged (sources a.now b.now) rows.now plan.now outcomes.now.put.items outcomes.now.removed.items) }
+    ensures differs { IfOk result (λ r. r.changed ≡ true → IsUnchanged (sources a.now b.now) rows.now plan.now outcomes.now.put.items outcomes.now.removed.items → ⊥) }
+{
+    let mut after = RowsAfter {
+        rows: Vec::new(alloc),
+        changed: false,
+    };
+    for i in 0..plan.len() {
+        let outcome = outcome_of(plan[i].step, &outcomes.put[i], &outcomes.removed[i]);
+        match next_row(alloc, rows, a, b, &plan[i], outcome) {
+            Ok(next) => {
+                let Ok(()) = after.add(next) else {
+                    return Err(AllocError);
+                };
+            }
+            Err(error) => return Err(error),
+        }
+    }
+    Ok(after)
+}

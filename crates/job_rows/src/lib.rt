@@ -4,5 +4,5 @@
 mod building;
 mod finding;
 
-pub use building::RowsAfter;
+pub use building::{RowsAfter, rows_after};
 pub use finding::row_of;
