@@ -8,7 +8,7 @@ ghost use Rattle.store_model.specs.declared.store.Entry.{Entry};
 ghost use Rattle.status_keeper.specs.Idents.{IsRising};
 ghost use Rattle.status_keeper.specs.Rows.{row_idents};
 ghost use Rattle.status_keeper.specs.Kept.{IsEdit, Changes as KeeperChanges};
-ghost use Rattle.status_keeper.specs.KeeperCalls.{KeeperCause};
+ghost use Rattle.status_keeper.specs.KeeperCalls.{KeeperCause, found_at};
 ghost use Rattle.side_reads.specs.Holdings.{asked};
 ghost use Rattle.job_reads.specs.Readings.{emptied_side, span, IsRead, IsStop, IsCausedStop, IsFetchStop, HoldAnswer};
 
@@ -104,7 +104,7 @@ pub fn read_job<A: Store, B: Store, K: Keeper>(
     ensures same_a { A.setting a.new ≡ A.setting a.old }
     ensures same_b { B.setting b.new ≡ B.setting b.old }
     ensures loaded { OnOk result (K.is_loaded keeper.new ≡ true) }
-    ensures current { K.tells keeper.old → OnOk result (K.is_current keeper.new) }
+    ensures found { K.tells keeper.old → OnOk result (K.found keeper.new ≡ found_at (K.state keeper.new).stamp) }
 {
     let rows = match keeper.load() {
         Ok(rows) => rows,

@@ -157,52 +157,48 @@ module _ (c peer : Course) (side : Side) (x : Sources) (rows : List Row) (rules 
   table_at : (p : Planned) (st : Step) → IsPlanned p → p.step ≡ st → Fits st (due_of rules (versions_at (p.ident).now)) (versions_at (p.ident).now)
   table_at p st planned is = subst (λ (q : Step). Fits q (due_of rules (versions_at (p.ident).now)) (versions_at (p.ident).now)) (sym planned.by_table ∙ is) (verdict_fits rules (versions_at (p.ident).now))
 
-  pub copy_affects : (p : Planned) (s t : SideNow) → Knows → IsPlanned p → p.step ≡ step.CopyTo side → CopySent other (place_on (other_side side) p) s t → Affects p s t
-  copy_affects p s t knows planned is sent =
+  pub copy_write : (p : Planned) (from : Seen) (item : ItemValue) (href : List ℕ) → Knows → IsPlanned p → p.step ≡ step.CopyTo side → IsSourceAt other (place_on (other_side side) p) from item → IsWriteFor c peer (p.ident).now (on_side side (versions_at (p.ident).now)) (on_side (other_side side) (versions_at (p.ident).now)) (new_at href item.text)
+  copy_write p from item href knows planned is source =
       let ident = (p.ident).now in
       let fits = table_at p (step.CopyTo side) planned is in
-      let found = source_of ident (place_on (other_side side) p) sent.from sent.item knows (place_of (other_side side) p planned) sent.source in
+      let found = source_of ident (place_on (other_side side) p) from item knows (place_of (other_side side) p planned) source in
       record {
-        to = on_side (other_side side) (versions_at ident);
-        is_written = ap (λ (q : Step). written q None side (versions_at ident)) is ∙ written_copy side (versions_at ident);
-        ch = new_at sent.href sent.item.text;
-        write = record {
-          expects = subst (λ (o : Option (List ℕ)). Expects c ident (new_at sent.href sent.item.text) o) (sym fits.2) refl;
-          sends = sent_as ident (place_on (other_side side) p) sent.from sent.item found.0 found.1;
-          source = source_is ident (place_on (other_side side) p) sent.from sent.item found.0 found.1;
-        };
-        sends = sent.sends;
+        expects = subst (λ (o : Option (List ℕ)). Expects c ident (new_at href item.text) o) (sym fits.2) refl;
+        sends = sent_as ident (place_on (other_side side) p) from item found.0 found.1;
+        source = source_is ident (place_on (other_side side) p) from item found.0 found.1;
       }
+
+  pub over_write : (p : Planned) (over from : Seen) (item : ItemValue) → Knows → IsPlanned p → seen_at own (place_on side p) ≡ Some over → IsSourceAt other (place_on (other_side side) p) from item → IsWriteFor c peer (p.ident).now (on_side side (versions_at (p.ident).now)) (on_side (other_side side) (versions_at (p.ident).now)) (over_at over.href over.etag item.text)
+  over_write p over from item knows planned stands source =
+      let ident = (p.ident).now in
+      let found = source_of ident (place_on (other_side side) p) from item knows (place_of (other_side side) p planned) source in
+      let here = at_place ident own (place_on side p) over (place_of side p planned) stands in
+      record {
+        expects = expects_own ident (place_on side p) over (over_at over.href over.etag item.text) knows here refl refl;
+        sends = sent_as ident (place_on (other_side side) p) from item found.0 found.1;
+        source = source_is ident (place_on (other_side side) p) from item found.0 found.1;
+      }
+
+  pub removal_write : (p : Planned) (over : Seen) → Knows → IsPlanned p → seen_at own (place_on side p) ≡ Some over → IsWriteFor c peer (p.ident).now (on_side side (versions_at (p.ident).now)) None (gone_at over.href over.etag)
+  removal_write p over knows planned stands =
+      let ident = (p.ident).now in
+      let here = at_place ident own (place_on side p) over (place_of side p planned) stands in
+      record { expects = expects_own ident (place_on side p) over (gone_at over.href over.etag) knows here refl refl; sends = refl; source = tt }
+
+  pub copy_says : (p : Planned) → p.step ≡ step.CopyTo side → written p.step None side (versions_at (p.ident).now) ≡ Some (on_side (other_side side) (versions_at (p.ident).now))
+  copy_says p is = ap (λ (q : Step). written q None side (versions_at (p.ident).now)) is ∙ written_copy side (versions_at (p.ident).now)
+
+  pub over_says : (p : Planned) → p.step ≡ step.WriteOver side → written p.step None side (versions_at (p.ident).now) ≡ Some (on_side (other_side side) (versions_at (p.ident).now))
+  over_says p is = ap (λ (q : Step). written q None side (versions_at (p.ident).now)) is ∙ written_over side (versions_at (p.ident).now)
+
+  pub removal_says : (p : Planned) → p.step ≡ step.RemoveFrom side → written p.step None side (versions_at (p.ident).now) ≡ Some None
+  removal_says p is = ap (λ (q : Step). written q None side (versions_at (p.ident).now)) is ∙ written_removal side (versions_at (p.ident).now)
+
+  pub copy_affects : (p : Planned) (s t : SideNow) → Knows → IsPlanned p → p.step ≡ step.CopyTo side → CopySent other (place_on (other_side side) p) s t → Affects p s t
+  copy_affects p s t knows planned is sent = record { to = on_side (other_side side) (versions_at (p.ident).now); is_written = copy_says p is; ch = new_at sent.href sent.item.text; write = copy_write p sent.from sent.item sent.href knows planned is sent.source; sends = sent.sends }
 
   pub over_affects : (p : Planned) (s t : SideNow) → Knows → IsPlanned p → p.step ≡ step.WriteOver side → OverSent own (place_on side p) other (place_on (other_side side) p) s t → Affects p s t
-  over_affects p s t knows planned is sent =
-      let ident = (p.ident).now in
-      let found = source_of ident (place_on (other_side side) p) sent.from sent.item knows (place_of (other_side side) p planned) sent.source in
-      let here = at_place ident own (place_on side p) sent.over (place_of side p planned) sent.stands in
-      record {
-        to = on_side (other_side side) (versions_at ident);
-        is_written = ap (λ (q : Step). written q None side (versions_at ident)) is ∙ written_over side (versions_at ident);
-        ch = over_at sent.over.href sent.over.etag sent.item.text;
-        write = record {
-          expects = expects_own ident (place_on side p) sent.over (over_at sent.over.href sent.over.etag sent.item.text) knows here refl refl;
-          sends = sent_as ident (place_on (other_side side) p) sent.from sent.item found.0 found.1;
-          source = source_is ident (place_on (other_side side) p) sent.from sent.item found.0 found.1;
-        };
-        sends = sent.sends;
-      }
+  over_affects p s t knows planned is sent = record { to = on_side (other_side side) (versions_at (p.ident).now); is_written = over_says p is; ch = over_at sent.over.href sent.over.etag sent.item.text; write = over_write p sent.over sent.from sent.item knows planned sent.stands sent.source; sends = sent.sends }
 
   pub removal_affects : (p : Planned) (s t : SideNow) → Knows → IsPlanned p → p.step ≡ step.RemoveFrom side → RemovalSent own (place_on side p) s t → Affects p s t
-  removal_affects p s t knows planned is sent =
-      let ident = (p.ident).now in
-      let here = at_place ident own (place_on side p) sent.over (place_of side p planned) sent.stands in
-      record {
-        to = None;
-        is_written = ap (λ (q : Step). written q None side (versions_at ident)) is ∙ written_removal side (versions_at ident);
-        ch = gone_at sent.over.href sent.over.etag;
-        write = record {
-          expects = expects_own ident (place_on side p) sent.over (gone_at sent.over.href sent.over.etag) knows here refl refl;
-          sends = refl;
-          source = tt;
-        };
-        sends = sent.sends;
-      }
+  removal_affects p s t knows planned is sent = record { to = None; is_written = removal_says p is; ch = gone_at sent.over.href sent.over.etag; write = removal_write p sent.over knows planned sent.stands; sends = sent.sends }

@@ -1,5 +1,5 @@
 -- One ident on one side, while changes are sent and act.
-use Rattle.std.proofs.Common.{◌≡◌, ◌⊎◌, inl, inr, ℕ, true, List, [], ◌∷◌, ◌++◌, Option, Some, None, refl, sym, ap, ◌∙◌, subst, append_assoc}
+use Rattle.std.proofs.Common.{◌≡◌, ◌⊎◌, inl, inr, ℕ, true, List, [], ◌∷◌, ◌++◌, Option, Some, None, option_map, refl, sym, ap, ◌∙◌, subst, append_assoc, Bool, false}
 use Rattle.std.proofs.lemmas.Bool.{false≢true}
 use Rattle.std.proofs.lemmas.Slice.Eq.{bytes_eq-Decides}
 use Rattle.std.specs.List.{AllByRecursion}
@@ -8,13 +8,13 @@ use Rattle.store_model.specs.declared.event.Held.{Held}
 use Rattle.store_model.specs.declared.event.StoreEvent.{StoreEvent}
 use Rattle.store_model.specs.declared.event.StoreEvent.TheVariants.{Edited, Toggled, Wrote, Read}
 use Rattle.store_model.specs.Sides.{SideState, happens, IsTrueEvent, KeepsItem, Evolves, IsOutside}
-use Rattle.store_model.specs.Waits.{Change, fits_at, Acts, ActAll}
+use Rattle.store_model.specs.Waits.{Change, fits_at, Acts, ActAll, Flushes}
 use Rattle.store_model.proofs.Moments.{Evolves-refl, Evolves-trans, Evolves-weaker, Evolves-one}
 use Rattle.side_views.specs.Views.{IsPut}
 use Rattle.job_runs.specs.Courses.{Course}
 use Rattle.job_runs.specs.Taken.{IsTaken, IsOverTaken}
-use Rattle.job_runs.specs.Writes.{IsNewOf, IsForOthers, IsSource}
-use Rattle.job_writes.specs.Writings.{SideNow, Sends}
+use Rattle.job_runs.specs.Writes.{IsNewOf, IsForOthers, IsSource, IsEtagOf}
+use Rattle.job_writes.specs.Writings.{SideNow, IsSent, Sends}
 use Rattle.job_traces.specs.Traces.{Expects, IsSentAs, IsWriteFor, IsFlushed}
 
 -- ---- one change that acts
@@ -214,6 +214,51 @@ module _ (c peer : Course) (ident : List ℕ) where
     acted_among (x ∷ first) ch rest s t all_first all_rest write run (old, new, fit, is_true, later) =
         let e : StoreEvent = Wrote x.href old new x.sent in
         acted_among first ch rest (happens s e) t all_first.1 all_rest write (Evolves-trans run (Evolves-one s e (other_event x s old new all_first.0 fit is_true) is_true)) later
+
+    -- ---- a write whose answer is known
+
+    -- the change was sent for the ident and its call told this etag: it acted, and the etag is of what it left, or it waits
+    abbrev pub IsSentFor : Change → Option (List ℕ) → SideNow → Type 0
+    IsSentFor ch etag s = ((done : IsDone ch s) × IsEtagOf etag (done.acted).new) ⊎ (Pends ch s × (etag ≡ None))
+
+    etag_of : (etag : Option (List ℕ)) (new : Option Held) → etag ≡ option_map (λ (h : Held). h.etag) new → IsEtagOf etag new
+    etag_of etag None e = subst (λ (o : Option (List ℕ)). IsEtagOf o None) (sym e) tt
+    etag_of etag (Some held) e = subst (λ (o : Option (List ℕ)). IsEtagOf o (Some held)) (sym e) refl
+
+    sent_more : (ch : Change) (etag : Option (List ℕ)) (s t : SideNow) → Evolves (IsForOthers c ident) s.state t.state → t.waiting ≡ s.waiting → IsSentFor ch etag s → IsSentFor ch etag t
+    unfolding acted_more
+    sent_more ch etag s t more same (inl (done, told)) = inl (record { acted = acted_more ch s.state t.state done.acted more; waits = subst (λ (w : List Change). AllByRecursion IsOther w) (sym same) done.waits }, told)
+    sent_more ch etag s t more same (inr (pends, none)) = inr (record { run = Evolves-trans pends.run more; write = pends.write; first = pends.first; rest = pends.rest; waits = same ∙ pends.waits; others_first = pends.others_first; others_rest = pends.others_rest }, none)
+
+    pub sent_other : (ch : Change) (etag : Option (List ℕ)) (other : Change) (s t : SideNow) → IsOther other → Sends other s t → IsSentFor ch etag s → IsSentFor ch etag t
+    unfolding acted_more
+    sent_other ch etag other s t is (inl (inl outside, same)) sent = sent_more ch etag s t (Evolves-weaker outside_is_for_others outside) same sent
+    sent_other ch etag other s t is (inl (inr acts, same)) sent = sent_more ch etag s t (acts_for_others other s.state t.state is acts) same sent
+    sent_other ch etag other s t is (inr (outside, same)) (inl (done, told)) = inl (record { acted = acted_more ch s.state t.state done.acted (Evolves-weaker outside_is_for_others outside); waits = subst (λ (w : List Change). AllByRecursion IsOther w) (sym same) (all_push s.waiting other done.waits is) }, told)
+    sent_other ch etag other s t is (inr (outside, same)) (inr (pends, none)) = inr (record {
+      run = Evolves-trans pends.run (Evolves-weaker outside_is_for_others outside);
+      write = pends.write;
+      first = pends.first;
+      rest = pends.rest ++ other ∷ [];
+      waits = same ∙ (ap (λ (w : List Change). w ++ other ∷ []) pends.waits ∙ append_assoc pends.first (ch ∷ pends.rest) (other ∷ []));
+      others_first = pends.others_first;
+      others_rest = all_push pends.rest other pends.others_rest is;
+    }, none)
+
+    pub sent_own : (waits : Bool) (ch : Change) (etag : Option (List ℕ)) (s t : SideNow) → IsWriteFor c peer ident saw to ch → IsSent waits ch etag s t → IsFresh s → IsSentFor ch etag t
+    unfolding acted_by
+    sent_own false ch etag s t write sent fresh = inl (record { acted = acted_by ch s.state t.state write fresh.run sent.0; waits = subst (λ (w : List Change). AllByRecursion IsOther w) (sym sent.2) fresh.waits }, etag_of etag (sent.0).new sent.1)
+    sent_own true ch etag s t write sent fresh = inr (record { run = Evolves-trans fresh.run (Evolves-weaker outside_is_for_others sent.0); write = write; first = s.waiting; rest = []; waits = sent.2; others_first = fresh.waits; others_rest = tt }, sent.1)
+
+    -- when all that waits has acted, it has
+    pub sent_flushed : (ch : Change) (etag : Option (List ℕ)) (s : SideNow) (exit : SideState) → IsSentFor ch etag s → Flushes s.waiting s.state exit → (acted : HasActed ch exit) × IsEtagOf etag acted.new
+    unfolding acted_more
+    sent_flushed ch etag s exit (inl (done, told)) flush = (acted_more ch s.state exit done.acted (Evolves-trans (Evolves-weaker outside_is_for_others flush.before) (Evolves-trans (all_act s.waiting flush.first flush.last done.waits flush.all) (Evolves-weaker outside_is_for_others flush.after))), told)
+    sent_flushed ch etag s exit (inr (pends, none)) flush =
+        let all : ActAll (pends.first ++ ch ∷ pends.rest) flush.first flush.last = subst (λ (w : List Change). ActAll w flush.first flush.last) pends.waits flush.all in
+        let acted = acted_among pends.first ch pends.rest flush.first flush.last pends.others_first pends.others_rest pends.write (Evolves-trans pends.run (Evolves-weaker outside_is_for_others flush.before)) all in
+        let done = acted_more ch flush.last exit acted (Evolves-weaker outside_is_for_others flush.after) in
+        (done, subst (λ (o : Option (List ℕ)). IsEtagOf o done.new) (sym none) tt)
 
     -- at the end the ident was written once, or not at all
     pub record IsWritten (exit : SideState) : Type 0 where
