@@ -1,3 +1,4 @@
 pub mod WriteLemmas
 pub mod StepLemmas
 pub mod RunLemmas
+pub mod MadeLemmas

@@ -57,19 +57,19 @@ module _ (c peer : Course) (side : Side) (x : Sources) (rows : List Row) (rules 
   abbrev pub Effect : (Step → Type 0) → Planned → SideNow → SideNow → Type 0
   Effect Kind p s t = (t ≡ s) ⊎ (Affects c peer side x rows rules p s t × Kind p.step)
 
-  put_effect : (p : Planned) (s t : SideNow) → Knows c peer side x rows rules → IsPlanned c peer side x rows rules p → PutTried side x p s t → Effect IsPutStep p s t
+  pub put_effect : (p : Planned) (s t : SideNow) → Knows c peer side x rows rules → IsPlanned c peer side x rows rules p → PutTried side x p s t → Effect IsPutStep p s t
   put_effect p s t knows planned (inl same) = inl same
   put_effect p s t knows planned (inr sent) = inr (put_kind side p.step c peer x rows rules p s t knows planned refl sent)
 
-  removal_effect : (p : Planned) (s t : SideNow) → Knows c peer side x rows rules → IsPlanned c peer side x rows rules p → RemovalTried side x p s t → Effect IsRemovalStep p s t
+  pub removal_effect : (p : Planned) (s t : SideNow) → Knows c peer side x rows rules → IsPlanned c peer side x rows rules p → RemovalTried side x p s t → Effect IsRemovalStep p s t
   removal_effect p s t knows planned (inl same) = inl same
   removal_effect p s t knows planned (inr sent) = inr (removal_kind side p.step c peer x rows rules p s t knows planned refl sent)
 
-  put_effects : (ps : List Planned) (s t : SideNow) → Knows c peer side x rows rules → AllByRecursion (IsPlanned c peer side x rows rules) ps → AllTried (PutTried side x) ps s t → AllTried (Effect IsPutStep) ps s t
+  pub put_effects : (ps : List Planned) (s t : SideNow) → Knows c peer side x rows rules → AllByRecursion (IsPlanned c peer side x rows rules) ps → AllTried (PutTried side x) ps s t → AllTried (Effect IsPutStep) ps s t
   put_effects [] s t knows planned done = done
   put_effects (p ∷ ps) s t knows planned (m, tried, rest) = (m, put_effect p s m knows planned.0 tried, put_effects ps m t knows planned.1 rest)
 
-  removal_effects : (ps : List Planned) (s t : SideNow) → Knows c peer side x rows rules → AllByRecursion (IsPlanned c peer side x rows rules) ps → AllTried (RemovalTried side x) ps s t → AllTried (Effect IsRemovalStep) ps s t
+  pub removal_effects : (ps : List Planned) (s t : SideNow) → Knows c peer side x rows rules → AllByRecursion (IsPlanned c peer side x rows rules) ps → AllTried (RemovalTried side x) ps s t → AllTried (Effect IsRemovalStep) ps s t
   removal_effects [] s t knows planned done = done
   removal_effects (p ∷ ps) s t knows planned (m, tried, rest) = (m, removal_effect p s m knows planned.0 tried, removal_effects ps m t knows planned.1 rest)
 
@@ -91,11 +91,11 @@ module _ (c peer : Course) (side : Side) (x : Sources) (rows : List Row) (rules 
     abbrev pub Stands : SideNow → Type 0
     Stands s = IsFresh c peer ident s ⊎ IsSaid s
 
-    other_of : (p : Planned) (s t : SideNow) → ((p.ident).now ≡ ident → ⊥) → (a : Affects c peer side x rows rules p s t) → IsOther c peer ident a.ch
+    pub other_of : (p : Planned) (s t : SideNow) → ((p.ident).now ≡ ident → ⊥) → (a : Affects c peer side x rows rules p s t) → IsOther c peer ident a.ch
     other_of p s t differs a = record { other = (p.ident).now; differs = differs; saw = on_side side (versions_at c peer side x rows rules (p.ident).now); to = a.to; write = a.write }
 
     -- a step of another ident
-    fresh_by_other : (Kind : Step → Type 0) (p : Planned) (s t : SideNow) → ((p.ident).now ≡ ident → ⊥) → Effect Kind p s t → IsFresh c peer ident s → IsFresh c peer ident t
+    pub fresh_by_other : (Kind : Step → Type 0) (p : Planned) (s t : SideNow) → ((p.ident).now ≡ ident → ⊥) → Effect Kind p s t → IsFresh c peer ident s → IsFresh c peer ident t
     fresh_by_other Kind p s t differs (inl same) fresh = subst (λ (y : SideNow). IsFresh c peer ident y) (sym same) fresh
     fresh_by_other Kind p s t differs (inr (a, kind)) fresh = fresh_other c peer ident a.ch s t (other_of p s t differs a) a.sends fresh
 
@@ -117,12 +117,12 @@ module _ (c peer : Course) (side : Side) (x : Sources) (rows : List Row) (rules 
         let is : says ≡ Some a.to = subst (λ (i : List ℕ). written (step_of rules (versions_at c peer side x rows rules i)) None side (versions_at c peer side x rows rules i) ≡ Some a.to) here (ap (λ (q : Step). written q None side (versions_at c peer side x rows rules (p.ident).now)) (sym planned.by_table) ∙ a.is_written) in
         under_of a.to t is (sends_own c peer ident saw a.to a.ch s t (subst (λ (i : List ℕ). IsWriteFor c peer i (on_side side (versions_at c peer side x rows rules i)) a.to a.ch) here a.write) a.sends fresh)
 
-    own_step : (p : Planned) → (p.ident).now ≡ ident → IsPlanned c peer side x rows rules p → p.step ≡ step_of rules (versions_at c peer side x rows rules ident)
+    pub own_step : (p : Planned) → (p.ident).now ≡ ident → IsPlanned c peer side x rows rules p → p.step ≡ step_of rules (versions_at c peer side x rows rules ident)
     own_step p here planned = planned.by_table ∙ ap (λ (i : List ℕ). step_of rules (versions_at c peer side x rows rules i)) here
 
     -- ---- all steps
 
-    decide : (i : List ℕ) → (i ≡ ident) ⊎ (i ≡ ident → ⊥)
+    pub decide : (i : List ℕ) → (i ≡ ident) ⊎ (i ≡ ident → ⊥)
     decide i = at (bytes_eq i ident) refl
       where
         at : (b : Bool) → bytes_eq i ident ≡ b → (i ≡ ident) ⊎ (i ≡ ident → ⊥)
@@ -133,7 +133,7 @@ module _ (c peer : Course) (side : Side) (x : Sources) (rows : List Row) (rules 
     all_others Kind [] s t later done stands = subst (λ (y : SideNow). Stands y) (sym done) stands
     all_others Kind (p ∷ ps) s t later (m, effect, rest) stands = all_others Kind ps m t later.1 rest (stands_by_other Kind p s m (λ same. precedes_differs ident (p.ident).now later.0 (sym same)) effect stands)
 
-    all_fresh : (Kind : Step → Type 0) (ps : List Planned) (s t : SideNow) → AllByRecursion (λ (z : List ℕ). Precedes ident z) (planned_idents ps) → AllTried (Effect Kind) ps s t → IsFresh c peer ident s → IsFresh c peer ident t
+    pub all_fresh : (Kind : Step → Type 0) (ps : List Planned) (s t : SideNow) → AllByRecursion (λ (z : List ℕ). Precedes ident z) (planned_idents ps) → AllTried (Effect Kind) ps s t → IsFresh c peer ident s → IsFresh c peer ident t
     all_fresh Kind [] s t later done fresh = subst (λ (y : SideNow). IsFresh c peer ident y) (sym done) fresh
     all_fresh Kind (p ∷ ps) s t later (m, effect, rest) fresh = all_fresh Kind ps m t later.1 rest (fresh_by_other Kind p s m (λ same. precedes_differs ident (p.ident).now later.0 (sym same)) effect fresh)
 

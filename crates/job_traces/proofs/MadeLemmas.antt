@@ -1,0 +1,154 @@
+-- A row that a run makes rests on what was taken of both sides, or on a write whose answer is known.
+use Rattle.std.proofs.Common.{◌≡◌, ◌⊎◌, inl, inr, ℕ, Bool, true, false, ◌||◌, List, [], ◌∷◌, Option, Some, None, option_map, refl, sym, ap, ◌∙◌, subst, Ok}
+use Rattle.std.specs.List.{AllByRecursion}
+use Rattle.item_text.specs.Items.{ItemValue}
+use Rattle.store_model.specs.Sides.{SideState, Evolves}
+use Rattle.store_model.specs.Waits.{Change, Flushes, new_at, over_at, gone_at}
+use Rattle.status_keeper.specs.declared.row.Row.{Row}
+use Rattle.status_keeper.specs.Idents.{Precedes, IsRising}
+use Rattle.sync_plan.specs.declared.report.Side.{Side}
+use Rattle.sync_plan.specs.declared.report.Side.TheVariants.{A, B}
+use Rattle.sync_plan.specs.declared.rules.Rules.{Rules}
+use Rattle.sync_plan.specs.declared.dues.Step.{Step}
+use Rattle.sync_plan.specs.declared.dues.Step.TheVariants as step
+use Rattle.sync_plan.specs.declared.seen.Seen.{Seen}
+use Rattle.sync_plan.specs.declared.seen.Planned.{Planned}
+use Rattle.sync_plan.specs.Plans.{planned_idents}
+use Rattle.sync_plan.specs.Verdicts.{Versions, other_side, step_of}
+use Rattle.sync_plan.specs.JobSteps.{on_side, written}
+use Rattle.sync_plan.proofs.Rising.{precedes_differs}
+use Rattle.side_reads.specs.Places.{href_on, etag_on}
+use Rattle.job_runs.specs.Courses.{Course}
+use Rattle.job_runs.specs.Writes.{WroteFor, IsEtagOf}
+use Rattle.job_writes.specs.declared.outcome.Outcome.{Outcome}
+use Rattle.job_writes.specs.declared.outcome.Outcome.TheVariants.{Kept, Gone, Written, Left, Conflict, NotWritten, NotRemoved, Skipped}
+use Rattle.job_writes.specs.Writings.{SideNow, Sources, CopyDid, OverDid, RemovalDid, held_on, place_on, PutBy, PutDid, PutTried, RemovalBy, RemovalDone, RemovalTried, InOrder, AllTried, is_failure, row_beside}
+use Rattle.job_writes.proofs.OrderLemmas.{put_tried, removal_tried}
+use Rattle.job_traces.specs.Traces.{IsWriteFor}
+use Rattle.job_traces.proofs.WriteLemmas.{IsOther, IsFresh, IsSentFor, HasActed, sent_other, sent_own, sent_flushed}
+use Rattle.job_traces.proofs.StepLemmas.{versions_at, Knows, IsPlanned, Affects, IsPutStep, IsRemovalStep, not_both, copy_write, over_write, removal_write, copy_says, over_says, removal_says}
+use Rattle.job_traces.proofs.RunLemmas.{Effect, put_effect, removal_effect, saw, says, other_of, fresh_by_other, decide, all_fresh, own_kind}
+
+-- the step and its outcome stand at one place of their lists
+abbrev pub IsAt : Planned → Outcome → List Planned → List Outcome → Type 0
+IsAt p o [] os = ⊥
+IsAt p o (q ∷ ps) [] = ⊥
+IsAt p o (q ∷ ps) (y ∷ os) = ((p ≡ q) × (o ≡ y)) ⊎ IsAt p o ps os
+
+placed_beside : (side : Side) (from : Seen) (href : List ℕ) (etag : Option (List ℕ)) → (href_on side (row_beside side from href etag) ≡ Some href) × (etag_on side (row_beside side from href etag) ≡ etag)
+placed_beside A from href etag = (refl, refl)
+placed_beside B from href etag = (refl, refl)
+
+module _ (c peer : Course) (side : Side) (x : Sources) (rows : List Row) (rules : Rules) (ident : List ℕ) (waits : Bool) where
+  -- a write for the ident was answered Ok: it acted or waits, and what its answer told is the row's place on this side
+  pub record IsPut (row : Row) (s : SideNow) : Type 0 where
+    pub to : Option (List ℕ)
+    pub is : says c peer side x rows rules ident ≡ Some to
+    pub ch : Change
+    pub etag : Option (List ℕ)
+    pub sent : IsSentFor c peer ident (saw c peer side x rows rules ident) to ch etag s
+    pub href_is : href_on side row ≡ Some ch.href
+    pub etag_is : etag_on side row ≡ etag
+
+  pub record IsRemoved (s : SideNow) : Type 0 where
+    pub is : says c peer side x rows rules ident ≡ Some None
+    pub ch : Change
+    pub sent : IsSentFor c peer ident (saw c peer side x rows rules ident) None ch None s
+
+  put_other : (Kind : Step → Type 0) (row : Row) (p : Planned) (s t : SideNow) → ((p.ident).now ≡ ident → ⊥) → Effect c peer side x rows rules Kind p s t → IsPut row s → IsPut row t
+  put_other Kind row p s t differs (inl same) put = subst (λ (y : SideNow). IsPut row y) (sym same) put
+  put_other Kind row p s t differs (inr (a, kind)) put =
+      record { to = put.to; is = put.is; ch = put.ch; etag = put.etag; sent = sent_other c peer ident (saw c peer side x rows rules ident) put.to put.ch put.etag a.ch s t (other_of c peer side x rows rules ident p s t differs a) a.sends put.sent; href_is = put.href_is; etag_is = put.etag_is }
+
+  removed_other : (Kind : Step → Type 0) (p : Planned) (s t : SideNow) → ((p.ident).now ≡ ident → ⊥) → Effect c peer side x rows rules Kind p s t → IsRemoved s → IsRemoved t
+  removed_other Kind p s t differs (inl same) removed = subst (λ (y : SideNow). IsRemoved y) (sym same) removed
+  removed_other Kind p s t differs (inr (a, kind)) removed =
+      record { is = removed.is; ch = removed.ch; sent = sent_other c peer ident (saw c peer side x rows rules ident) None removed.ch None a.ch s t (other_of c peer side x rows rules ident p s t differs a) a.sends removed.sent }
+
+  says_at : (p : Planned) (to : Option (List ℕ)) → (p.ident).now ≡ ident → IsPlanned c peer side x rows rules p → written p.step None side (versions_at c peer side x rows rules (p.ident).now) ≡ Some to → says c peer side x rows rules ident ≡ Some to
+  says_at p to here planned is = subst (λ (i : List ℕ). written (step_of rules (versions_at c peer side x rows rules i)) None side (versions_at c peer side x rows rules i) ≡ Some to) here (ap (λ (q : Step). written q None side (versions_at c peer side x rows rules (p.ident).now)) (sym planned.by_table) ∙ is)
+
+  write_at : (p : Planned) (to : Option (List ℕ)) (ch : Change) → (p.ident).now ≡ ident → IsWriteFor c peer (p.ident).now (on_side side (versions_at c peer side x rows rules (p.ident).now)) to ch → IsWriteFor c peer ident (saw c peer side x rows rules ident) to ch
+  write_at p to ch here write = subst (λ (i : List ℕ). IsWriteFor c peer i (on_side side (versions_at c peer side x rows rules i)) to ch) here write
+
+  -- the step of the ident itself, where it is on this side
+  copy_put : (p : Planned) (row : Row) (s t : SideNow) → (p.ident).now ≡ ident → Knows c peer side x rows rules → IsPlanned c peer side x rows rules p → p.step ≡ step.CopyTo side → CopyDid waits side (held_on (other_side side) x) (place_on (other_side side) p) s t (Written row) → IsFresh c peer ident s → IsPut row t
+  copy_put p row s t here knows planned is did fresh =
+      let to = on_side (other_side side) (versions_at c peer side x rows rules (p.ident).now) in
+      let ch = new_at did.answer.0 did.item.text in
+      let placed = placed_beside side did.from did.answer.0 did.answer.1 in
+      record {
+        to = to;
+        is = says_at p to here planned (copy_says c peer side x rows rules p is);
+        ch = ch;
+        etag = did.answer.1;
+        sent = sent_own c peer ident (saw c peer side x rows rules ident) to waits ch did.answer.1 s t (write_at p to ch here (copy_write c peer side x rows rules p did.from did.item did.answer.0 knows planned is did.source)) did.answer.3 fresh;
+        href_is = ap (href_on side) did.answer.2 ∙ placed.0;
+        etag_is = ap (etag_on side) did.answer.2 ∙ placed.1;
+      }
+
+  over_put : (p : Planned) (row : Row) (s t : SideNow) → (p.ident).now ≡ ident → Knows c peer side x rows rules → IsPlanned c peer side x rows rules p → p.step ≡ step.WriteOver side → OverDid waits side (held_on side x) (place_on side p) (held_on (other_side side) x) (place_on (other_side side) p) s t (Written row) → IsFresh c peer ident s → IsPut row t
+  over_put p row s t here knows planned is did fresh =
+      let to = on_side (other_side side) (versions_at c peer side x rows rules (p.ident).now) in
+      let ch = over_at (did.over).href (did.over).etag did.item.text in
+      let placed = placed_beside side did.from (did.over).href did.answer.0 in
+      record {
+        to = to;
+        is = says_at p to here planned (over_says c peer side x rows rules p is);
+        ch = ch;
+        etag = did.answer.0;
+        sent = sent_own c peer ident (saw c peer side x rows rules ident) to waits ch did.answer.0 s t (write_at p to ch here (over_write c peer side x rows rules p did.over did.from did.item knows planned did.stands did.source)) did.answer.2 fresh;
+        href_is = ap (href_on side) did.answer.1 ∙ placed.0;
+        etag_is = ap (etag_on side) did.answer.1 ∙ placed.1;
+      }
+
+  removal_of : (p : Planned) (s t : SideNow) → (p.ident).now ≡ ident → Knows c peer side x rows rules → IsPlanned c peer side x rows rules p → p.step ≡ step.RemoveFrom side → RemovalDid waits side (held_on side x) (place_on side p) s t Gone → IsFresh c peer ident s → IsRemoved t
+  removal_of p s t here knows planned is did fresh =
+      let ch = gone_at (did.over).href (did.over).etag in
+      record {
+        is = says_at p None here planned (removal_says c peer side x rows rules p is);
+        ch = ch;
+        sent = sent_own c peer ident (saw c peer side x rows rules ident) None waits ch None s t (write_at p None ch here (removal_write c peer side x rows rules p did.over knows planned did.stands)) did.answer fresh;
+      }
+
+  -- ---- all steps of a phase
+
+  later_at : (i : List ℕ) (p : Planned) (o : Outcome) (ps : List Planned) (os : List Outcome) → AllByRecursion (λ (z : List ℕ). Precedes i z) (planned_idents ps) → IsAt p o ps os → Precedes i (p.ident).now
+  later_at i p o [] os later at = absurd at
+  later_at i p o (q ∷ ps) [] later at = absurd at
+  later_at i p o (q ∷ ps) (y ∷ os) later (inl (same, e)) = subst (λ (r : Planned). Precedes i (r.ident).now) (sym same) later.0
+  later_at i p o (q ∷ ps) (y ∷ os) later (inr at) = later_at i p o ps os later.1 at
+
+  before_at : (q p : Planned) (o : Outcome) (ps : List Planned) (os : List Outcome) → (p.ident).now ≡ ident → AllByRecursion (λ (z : List ℕ). Precedes (q.ident).now z) (planned_idents ps) → IsAt p o ps os → (q.ident).now ≡ ident → ⊥
+  before_at q p o ps os here later at same = precedes_differs (q.ident).now (p.ident).now (later_at (q.ident).now p o ps os later at) (same ∙ sym here)
+
+  module _ (knows : Knows c peer side x rows rules) where
+    puts_others : (row : Row) (failed : Bool) (ps : List Planned) (os : List Outcome) (s t : SideNow) → AllByRecursion (λ (z : List ℕ). Precedes ident z) (planned_idents ps) → AllByRecursion (IsPlanned c peer side x rows rules) ps → InOrder (λ failed. PutDid waits side x) failed ps os s t → IsPut row s → IsPut row t
+    puts_others row failed [] [] s t later planned done put = subst (λ (y : SideNow). IsPut row y) (sym done) put
+    puts_others row failed (p ∷ ps) (o ∷ os) s t later planned (m, did, rest) put = puts_others row (failed || is_failure o) ps os m t later.1 planned.1 rest (put_other IsPutStep row p s m (λ same. precedes_differs ident (p.ident).now later.0 (sym same)) (put_effect c peer side x rows rules p s m knows planned.0 (put_tried waits side x p s m o did)) put)
+    puts_others row failed [] (o ∷ os) s t later planned done put = absurd done
+    puts_others row failed (p ∷ ps) [] s t later planned done put = absurd done
+
+    -- what one step of the ident does on this side, where it was written
+    own_put : (st : Step) (p : Planned) (row : Row) (s t : SideNow) → (p.ident).now ≡ ident → IsPlanned c peer side x rows rules p → p.step ≡ st → (st ≡ step.CopyTo side) ⊎ (st ≡ step.WriteOver side) → PutBy st waits side x p s t (Written row) → IsFresh c peer ident s → IsPut row t
+    own_put st p row s t here planned is (inl copy) did fresh = copy_put p row s t here knows planned (is ∙ copy) (copy_did side copy did) fresh
+      where
+        copy_did : (to : Side) → st ≡ step.CopyTo to → PutBy st waits to x p s t (Written row) → CopyDid waits to (held_on (other_side to) x) (place_on (other_side to) p) s t (Written row)
+        copy_did A e h = subst (λ (q : Step). PutBy q waits A x p s t (Written row)) e h
+        copy_did B e h = subst (λ (q : Step). PutBy q waits B x p s t (Written row)) e h
+    own_put st p row s t here planned is (inr over) did fresh = over_put p row s t here knows planned (is ∙ over) (over_did side over did) fresh
+      where
+        over_did : (to : Side) → st ≡ step.WriteOver to → PutBy st waits to x p s t (Written row) → OverDid waits to (held_on to x) (place_on to p) (held_on (other_side to) x) (place_on (other_side to) p) s t (Written row)
+        over_did A e h = subst (λ (q : Step). PutBy q waits A x p s t (Written row)) e h
+        over_did B e h = subst (λ (q : Step). PutBy q waits B x p s t (Written row)) e h
+
+    puts_at : (p : Planned) (row : Row) (failed : Bool) (ps : List Planned) (os : List Outcome) (s t : SideNow) → (p.ident).now ≡ ident → (p.step ≡ step.CopyTo side) ⊎ (p.step ≡ step.WriteOver side) → IsRising (planned_idents ps) → AllByRecursion (IsPlanned c peer side x rows rules) ps → InOrder (λ failed. PutDid waits side x) failed ps os s t → IsAt p (Written row) ps os → IsFresh c peer ident s → IsPut row t
+    puts_at p row failed [] os s t here kind rising planned done at fresh = absurd at
+    puts_at p row failed (q ∷ ps) [] s t here kind rising planned done at fresh = absurd at
+    puts_at p row failed (q ∷ ps) (o ∷ os) s t here kind rising planned (m, did, rest) (inl (same, e)) fresh =
+        let own : PutDid waits side x p s m (Written row) = subst (λ (r : Planned). PutDid waits side x r s m (Written row)) (sym same) (subst (λ (y : Outcome). PutDid waits side x q s m y) (sym e) did) in
+        let is_planned : IsPlanned c peer side x rows rules p = subst (IsPlanned c peer side x rows rules) (sym same) planned.0 in
+        let later : AllByRecursion (λ (z : List ℕ). Precedes ident z) (planned_idents ps) = subst (λ (i : List ℕ). AllByRecursion (λ (z : List ℕ). Precedes i z) (planned_idents ps)) (ap (λ (r : Planned). (r.ident).now) (sym same) ∙ here) rising.0 in
+        puts_others row (failed || is_failure o) ps os m t later planned.1 rest (own_put p.step p row s m here is_planned refl kind own fresh)
+    puts_at p row failed (q ∷ ps) (o ∷ os) s t here kind rising planned (m, did, rest) (inr at) fresh =
+        puts_at p row (failed || is_failure o) ps os m t here kind rising.1 planned.1 rest at (fresh_by_other c peer side x rows rules ident IsPutStep q s m (before_at q p (Written row) ps os here rising.0 at) (put_effect c peer side x rows rules q s m knows planned.0 (put_tried waits side x q s m o did)) fresh)
