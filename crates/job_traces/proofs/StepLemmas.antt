@@ -39,7 +39,7 @@ pub record IsAtPlace (ident : List ℕ) (held : Holding) (place : Option ℕ) (x
   pub same_ident : x.ident ≡ ident
   pub first : seen_of ident held.seen.items ≡ Some x
 
-at_place : (ident : List ℕ) (held : Holding) (place : Option ℕ) (x : Seen) → IsPlaceOf ident held.seen.items place → seen_at held place ≡ Some x → IsAtPlace ident held place x
+pub at_place : (ident : List ℕ) (held : Holding) (place : Option ℕ) (x : Seen) → IsPlaceOf ident held.seen.items place → seen_at held place ≡ Some x → IsAtPlace ident held place x
 at_place ident held None x of e = cc
 at_place ident held (Some index) x of e =
     let both : Some of.item ≡ Some x = sym of.stands ∙ e in
@@ -117,11 +117,11 @@ module _ (c peer : Course) (side : Side) (x : Sources) (rows : List Row) (rules 
   abbrev pub IsPlanned : Planned → Type 0
   IsPlanned p = IsPlannedFor x.a.seen.items x.b.seen.items rows rules p
 
-  on_held : (at : Side) (ident : List ℕ) → on_side at (versions_at ident) ≡ option_map (λ (s : Seen). (s.fp).0) (seen_of ident (held_on at x).seen.items)
+  pub on_held : (at : Side) (ident : List ℕ) → on_side at (versions_at ident) ≡ option_map (λ (s : Seen). (s.fp).0) (seen_of ident (held_on at x).seen.items)
   on_held A ident = refl
   on_held B ident = refl
 
-  place_of : (at : Side) (p : Planned) → IsPlanned p → IsPlaceOf (p.ident).now (held_on at x).seen.items (place_on at p)
+  pub place_of : (at : Side) (p : Planned) → IsPlanned p → IsPlaceOf (p.ident).now (held_on at x).seen.items (place_on at p)
   place_of A p planned = planned.place_a
   place_of B p planned = planned.place_b
 
@@ -138,7 +138,7 @@ module _ (c peer : Course) (side : Side) (x : Sources) (rows : List Row) (rules 
       let here = at_place ident other place from of source.seen in
       (here, knows.texts here.index from item here.stands (text_index other place here.index item here.is source.text))
 
-  version_at : (at : Side) (ident : List ℕ) (s : Seen) → seen_of ident (held_on at x).seen.items ≡ Some s → on_side at (versions_at ident) ≡ Some (s.fp).0
+  pub version_at : (at : Side) (ident : List ℕ) (s : Seen) → seen_of ident (held_on at x).seen.items ≡ Some s → on_side at (versions_at ident) ≡ Some (s.fp).0
   version_at at ident s e = on_held at ident ∙ ap (option_map (λ (y : Seen). (y.fp).0)) e
 
   sent_as : (ident : List ℕ) (place : Option ℕ) (from : Seen) (item : ItemValue) → IsAtPlace ident other place from → IsReadText peer from item → IsSentAs ident (Some item.text) (on_side (other_side side) (versions_at ident))
