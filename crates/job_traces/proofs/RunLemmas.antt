@@ -18,7 +18,9 @@ use Rattle.sync_plan.specs.JobSteps.{on_side, written}
 use Rattle.sync_plan.proofs.Rising.{precedes_differs}
 use Rattle.job_runs.specs.Courses.{Course}
 use Rattle.job_runs.specs.Writes.{WroteFor, WroteAll, WroteSome}
-use Rattle.job_writes.specs.Writings.{SideNow, Sources, PutTried, PutSentBy, RemovalTried, RemovalSentBy, AllTried}
+use Rattle.job_writes.specs.declared.phases.Outcomes.{Outcomes}
+use Rattle.job_writes.proofs.OrderLemmas.{puts_tried, removals_tried}
+use Rattle.job_writes.specs.Writings.{WritesDid, failed_after, SideNow, Sources, PutTried, PutSentBy, RemovalTried, RemovalSentBy, AllTried}
 use Rattle.job_traces.specs.Traces.{IsWriteFor, IsFlushed}
 use Rattle.job_traces.proofs.WriteLemmas.{IsOther, IsFresh, IsUnderWay, Tracks, IsWritten, fresh_other, fresh_flushed, sends_other, sends_own, flushed}
 use Rattle.job_traces.proofs.StepLemmas.{versions_at, Knows, IsPlanned, Affects, IsPutStep, IsRemovalStep, not_both, copy_affects, over_affects, removal_affects}
@@ -199,3 +201,7 @@ module _ (c peer : Course) (side : Side) (x : Sources) (rows : List Row) (rules 
 
     pub wrote : (ps : List Planned) (s m t : SideNow) → Knows c peer side x rows rules → IsRising (planned_idents ps) → AllByRecursion (IsPlanned c peer side x rows rules) ps → AllTried (PutTried side x) ps s m → AllTried (RemovalTried side x) ps m t → IsFresh c peer ident s → IsFlushed t c.exit → WroteSome c peer ident saw says
     wrote ps s m t knows rising planned first second fresh flush = wrote_some t (both ps s m t rising planned (put_effects ps s m knows planned first) (removal_effects ps m t knows planned second) fresh) flush
+
+    -- and where all steps have their outcomes
+    pub wrote_done : (waits : Bool) (ps : List Planned) (os : Outcomes) (s t : SideNow) → Knows c peer side x rows rules → IsRising (planned_idents ps) → AllByRecursion (IsPlanned c peer side x rows rules) ps → WritesDid waits side x ps s t os → IsFresh c peer ident s → IsFlushed t c.exit → WroteSome c peer ident saw says
+    wrote_done waits ps os s t knows rising planned did fresh flush = wrote ps s did.between t knows rising planned (puts_tried waits side x ps os.put.items s did.between did.puts) (removals_tried waits side x (failed_after false os.put.items) ps os.removed.items did.between t did.removals) fresh flush

@@ -3,4 +3,4 @@
 
 mod laws;
 
-pub use laws::writes_are_of_the_step;
+pub use laws::{rows_are_made, writes_are_of_the_step};

@@ -182,3 +182,6 @@ removals_refl side x ps s = tried_refl (RemovalTried side x) (λ q y. inl refl) 
 
 pub puts_tried : (waits : Bool) (side : Side) (x : Sources) (ps : List Planned) (os : List Outcome) (s t : SideNow) → InOrder (λ failed. PutDid waits side x) false ps os s t → AllTried (PutTried side x) ps s t
 puts_tried waits side x ps os s t done = order_tried (λ failed. PutDid waits side x) (PutTried side x) (λ failed q y z o did. put_tried waits side x q y z o did) false ps os s t done
+
+pub removals_tried : (waits : Bool) (side : Side) (x : Sources) (failed : Bool) (ps : List Planned) (os : List Outcome) (s t : SideNow) → InOrder (RemovalDone waits side x) failed ps os s t → AllTried (RemovalTried side x) ps s t
+removals_tried waits side x failed ps os s t done = order_tried (RemovalDone waits side x) (RemovalTried side x) (removal_tried waits side x) failed ps os s t done
