@@ -1,5 +1,5 @@
 -- The rows that a run comes to, by its plan and what became of each step (this project's own).
-use Rattle.std.specs.Prelude.{◌≡◌, ℕ, Bool, List, [], ◌∷◌, Option, Some, None}
+use Rattle.std.specs.Prelude.{◌≡◌, ◌⊎◌, ℕ, Bool, List, [], ◌∷◌, Option, Some, None}
 use Rattle.std.specs.List.{cons_option}
 use Rattle.status_keeper.specs.declared.row.Row.{Row}
 use Rattle.status_keeper.specs.Rows.{row_of}
@@ -55,3 +55,10 @@ IsUnchanged x rows [] firsts seconds = Unit {0}
 IsUnchanged x rows (p ∷ ps) [] seconds = Unit {0}
 IsUnchanged x rows (p ∷ ps) (f ∷ fs) [] = Unit {0}
 IsUnchanged x rows (p ∷ ps) (f ∷ fs) (g ∷ gs) = (row_after x rows p (outcome_of p.step f g) ≡ row_of (p.ident).now rows) × IsUnchanged x rows ps fs gs
+
+-- a step of a plan stands beside its outcomes of both phases
+abbrev pub IsStepAt : Planned → Outcome → Outcome → List Planned → List Outcome → List Outcome → Type 0
+IsStepAt p f g [] firsts seconds = ⊥
+IsStepAt p f g (q ∷ ps) [] seconds = ⊥
+IsStepAt p f g (q ∷ ps) (y ∷ fs) [] = ⊥
+IsStepAt p f g (q ∷ ps) (y ∷ fs) (z ∷ gs) = ((p ≡ q) × (f ≡ y) × (g ≡ z)) ⊎ IsStepAt p f g ps fs gs

@@ -213,7 +213,7 @@ pub fn rows_after(
     outcomes: &Outcomes,
 ) -> Result<RowsAfter, AllocError>
     requires rising { IsRising (row_idents rows.now) }
-    requires whole { IsWhole plan.now outcomes.now }
+    requires whole { IsWhole (sources a.now b.now) plan.now outcomes.now }
     ensures rows { IfOk result (λ r. r.rows.items ≡ rows_after (sources a.now b.now) rows.now plan.now outcomes.now.put.items outcomes.now.removed.items) }
     ensures same { IfOk result (λ r. r.changed ≡ false → IsUnchanged (sources a.now b.now) rows.now plan.now outcomes.now.put.items outcomes.now.removed.items) }
     ensures differs { IfOk result (λ r. r.changed ≡ true → IsUnchanged (sources a.now b.now) rows.now plan.now outcomes.now.put.items outcomes.now.removed.items → ⊥) }

@@ -24,8 +24,7 @@ use Rattle.job_writes.specs.declared.outcome.Outcome.{Outcome}
 use Rattle.job_writes.specs.declared.outcome.Outcome.TheVariants.{Kept, Gone, Written, Left, Conflict, NotWritten, NotRemoved, Skipped}
 use Rattle.job_writes.specs.declared.phases.Outcomes.{Outcomes}
 use Rattle.job_writes.specs.Writings.{SideNow, Sources, seen_at, WritesDid, IsWhole, AllFit, FitsPut, FitsRemoval, IsPut, IsRemoval, failed_after, is_failure}
-use Rattle.job_rows.specs.RowsAfter.{outcome_of, row_of_both, row_kept, row_after}
-use Rattle.job_traces.specs.Traces.{IsStepAt}
+use Rattle.job_rows.specs.RowsAfter.{outcome_of, row_of_both, row_kept, row_after, IsStepAt}
 use Rattle.job_traces.proofs.WriteLemmas.{IsFresh}
 use Rattle.job_traces.proofs.StepLemmas.{Knows, IsPlanned, IsPutStep, IsRemovalStep}
 use Rattle.job_traces.proofs.MadeLemmas.{IsAt, IsWroteRow, put_wrote, removal_wrote}
@@ -79,7 +78,7 @@ module _ (a b : Course) (x : Sources) (rows : List Row) (rules : Rules) (waits_a
     pub planned : AllByRecursion (IsPlannedFor x.a.seen.items x.b.seen.items rows rules) plan
     pub did_a : WritesDid waits_a A x plan start_a end_a os
     pub did_b : WritesDid waits_b B x plan start_b end_b os
-    pub fits : IsWhole plan os
+    pub fits : IsWhole x plan os
     pub fresh_a : (ident : List ℕ) → IsFresh a b ident start_a
     pub fresh_b : (ident : List ℕ) → IsFresh b a ident start_b
     pub flush_a : Flushes end_a.waiting end_a.state a.exit

@@ -1,13 +1,11 @@
 -- What a change that a run sends is for, and what became of it on the side (this project's own).
-use Rattle.std.specs.Prelude.{◌≡◌, ◌⊎◌, ℕ, List, [], ◌∷◌, Option, Some, None}
+use Rattle.std.specs.Prelude.{◌≡◌, ◌⊎◌, ℕ, List, Option, Some, None}
 use Rattle.item_text.specs.Items.{ItemValue, item_of}
 use Rattle.store_model.specs.Sides.{SideState, Evolves, IsOutside}
 use Rattle.store_model.specs.Waits.{Change, Flushes}
 use Rattle.job_runs.specs.Courses.{Course}
 use Rattle.job_runs.specs.Taken.{IsTaken}
 use Rattle.job_runs.specs.Writes.{IsSource}
-use Rattle.sync_plan.specs.declared.seen.Planned.{Planned}
-use Rattle.job_writes.specs.declared.outcome.Outcome.{Outcome}
 use Rattle.job_writes.specs.Writings.{SideNow}
 
 -- it expects nothing, where the run took the side to lack the ident, or the etag of what it took
@@ -29,13 +27,6 @@ pub record IsWriteFor (c peer : Course) (ident : List ℕ) (saw to : Option (Lis
 -- what waits acts, all of it or nothing
 abbrev pub IsFlushed : SideNow → SideState → Type 0
 IsFlushed s exit = Evolves IsOutside s.state exit ⊎ Flushes s.waiting s.state exit
-
--- a step of a plan stands beside its outcomes of both phases
-abbrev pub IsStepAt : Planned → Outcome → Outcome → List Planned → List Outcome → List Outcome → Type 0
-IsStepAt p f g [] firsts seconds = ⊥
-IsStepAt p f g (q ∷ ps) [] seconds = ⊥
-IsStepAt p f g (q ∷ ps) (y ∷ fs) [] = ⊥
-IsStepAt p f g (q ∷ ps) (y ∷ fs) (z ∷ gs) = ((p ≡ q) × (f ≡ y) × (g ≡ z)) ⊎ IsStepAt p f g ps fs gs
 
 -- all that waits acted, and nothing else happened but edits from outside
 abbrev pub AllFlushed : SideNow → SideState → Type 0

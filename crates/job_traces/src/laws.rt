@@ -16,8 +16,8 @@ ghost use Rattle.job_reads.specs.Readings.{Span, IsRead, course_of_a, course_of_
 ghost use Rattle.job_writes.specs.declared.outcome.Outcome.{Outcome};
 ghost use Rattle.job_writes.specs.declared.phases.Outcomes.{Outcomes};
 ghost use Rattle.job_writes.specs.Writings.{SideNow, now_of, sources, WritesDid, WritesTried, IsWhole};
-ghost use Rattle.job_rows.specs.RowsAfter.{outcome_of, row_after};
-ghost use Rattle.job_traces.specs.Traces.{IsFlushed, AllFlushed, IsStepAt};
+ghost use Rattle.job_rows.specs.RowsAfter.{outcome_of, row_after, IsStepAt};
+ghost use Rattle.job_traces.specs.Traces.{IsFlushed, AllFlushed};
 
 /// Whatever its calls answer and wherever it stops: for each ident a run writes on a side nothing, or once what the step of
 /// the ident says, over what it took the side to hold, with a text that it read on the other side. So it is also where
@@ -40,7 +40,7 @@ pub fn writes_are_of_the_step()
 pub fn rows_are_made()
     ensures { (force : Bool) (rules : Rules) (x : Span) (r : ReadJob) (plan : List Planned) (waits_a waits_b : Bool) (os : Outcomes) (end_a end_b : SideNow) (exit_a exit_b : SideState) (p : Planned) (f g : Outcome) →
         IsRead force x r → IsPlan r.a.seen.items r.b.seen.items r.rows.items rules plan →
-        WritesDid waits_a A (sources r.a r.b) plan (now_of x.a_now []) end_a os → WritesDid waits_b B (sources r.a r.b) plan (now_of x.b_now []) end_b os → IsWhole plan os →
+        WritesDid waits_a A (sources r.a r.b) plan (now_of x.a_now []) end_a os → WritesDid waits_b B (sources r.a r.b) plan (now_of x.b_now []) end_b os → IsWhole (sources r.a r.b) plan os →
         AllFlushed end_a exit_a → AllFlushed end_b exit_b → IsStepAt p f g plan os.put.items os.removed.items →
         (row_after (sources r.a r.b) r.rows.items p (outcome_of p.step f g) ≡ row_of p.ident.now r.rows.items) ⊎
         IsMade (course_of_a x r exit_a) (course_of_b x r exit_b) p.ident.now (versions_of p.ident.now r.a.seen.items r.b.seen.items r.rows.items)

@@ -293,6 +293,35 @@ IsRemoval side Conflict = ⊥
 IsRemoval side (NotWritten at error) = ⊥
 IsRemoval side Skipped = ⊥
 
+-- the row of an item that was written is of the ident of what it was written from
+abbrev pub IsRowOf : List ℕ → Outcome → Type 0
+IsRowOf ident (Written row) = row.ident ≡ ident
+IsRowOf ident (NotWritten at error) = Unit {0}
+IsRowOf ident Kept = Unit {0}
+IsRowOf ident Gone = Unit {0}
+IsRowOf ident Left = Unit {0}
+IsRowOf ident Conflict = Unit {0}
+IsRowOf ident (NotRemoved at error) = Unit {0}
+IsRowOf ident Skipped = Unit {0}
+
+pub record IsRowFrom (other : Holding) (place : Option ℕ) (o : Outcome) : Type 0 where
+  pub from : Seen
+  pub stands : seen_at other place ≡ Some from
+  pub of : IsRowOf from.ident o
+
+abbrev pub IsNamedBy : Step → Sources → Planned → Outcome → Type 0
+IsNamedBy (step.CopyTo to) x p o = IsRowFrom (held_on (other_side to) x) (place_on (other_side to) p) o
+IsNamedBy (step.WriteOver to) x p o = IsRowFrom (held_on (other_side to) x) (place_on (other_side to) p) o
+IsNamedBy step.Forget x p o = Unit {0}
+IsNamedBy step.Keep x p o = Unit {0}
+IsNamedBy (step.RemoveFrom from) x p o = Unit {0}
+IsNamedBy step.HandOver x p o = Unit {0}
+IsNamedBy step.Conflict x p o = Unit {0}
+IsNamedBy (step.Held to) x p o = Unit {0}
+
+abbrev pub IsNamedFor : Sources → Planned → Outcome → Type 0
+IsNamedFor x p o = IsNamedBy p.step x p o
+
 -- ---- the removals
 
 -- a write that wasn't Ok
@@ -402,7 +431,8 @@ WritesAnswer waits side x ps s t (Ok os) = WritesDid waits side x ps s t os
 WritesAnswer waits side x ps s t (Err e) = WritesTried side x ps s t
 
 -- each step has its outcomes
-pub record IsWhole (ps : List Planned) (os : Outcomes) : Type 0 where
+pub record IsWhole (x : Sources) (ps : List Planned) (os : Outcomes) : Type 0 where
+  pub named : AllFit (λ failed. IsNamedFor x) false ps os.put.items
   pub put : AllFit (λ failed p. FitsPut p.step) false ps os.put.items
   pub removed : AllFit (λ failed p. FitsRemoval failed p.step) (failed_after false os.put.items) ps os.removed.items
 

@@ -6,7 +6,7 @@ ghost use Rattle.outside.specs.Causes.{Rose};
 ghost use Rattle.store_model.specs.Sides.{IsAnyEvent};
 ghost use Rattle.store_model.specs.StoreCalls.{Changes, Stays};
 ghost use Rattle.sync_plan.specs.declared.report.Side.TheVariants as side;
-ghost use Rattle.job_writes.specs.Writings.{now_of, sources, FitsPut, FitsRemoval, AllFit, PutsAnswer, RemovalsAnswer, WritesAnswer, IsWhole, IsCausedOutcome, AreCaused, is_failure, failed_after};
+ghost use Rattle.job_writes.specs.Writings.{now_of, sources, IsNamedFor, FitsPut, FitsRemoval, AllFit, PutsAnswer, RemovalsAnswer, WritesAnswer, IsWhole, IsCausedOutcome, AreCaused, is_failure, failed_after};
 
 use crate::outcome::Outcome;
 use crate::steps::{put_step, removal_turn};
@@ -38,6 +38,7 @@ fn put_all<A: Store, B: Store>(
     ensures answer_a { A.tells a.old → PutsAnswer (A.waits a.old) side.A (sources held_a.now held_b.now) plan.now (now_of (A.side a.old) (A.waiting a.old)) (now_of (A.side a.new) (A.waiting a.new)) result }
     ensures answer_b { B.tells b.old → PutsAnswer (B.waits b.old) side.B (sources held_a.now held_b.now) plan.now (now_of (B.side b.old) (B.waiting b.old)) (now_of (B.side b.new) (B.waiting b.new)) result }
     ensures fits { IfOk result (λ os. AllFit (λ failed p. FitsPut p.step) false plan.now os.items) }
+    ensures named { IfOk result (λ os. AllFit (λ failed. IsNamedFor (sources held_a.now held_b.now)) false plan.now os.items) }
     ensures causes { IfOk result (λ os. AllByRecursion (IsCausedOutcome (Rose (A.count a.old) (A.count a.new)) (Rose (B.count b.old) (B.count b.new))) os.items) }
     ensures kind_a { Stays A.waits A.is_sure a.old a.new }
     ensures kind_b { Stays B.waits B.is_sure b.old b.new }
@@ -145,7 +146,7 @@ pub fn write_all<A: Store, B: Store>(
     ensures changes_b { Changes B.count B.tells B.side IsAnyEvent b.old b.new }
     ensures answer_a { A.tells a.old → WritesAnswer (A.waits a.old) side.A (sources held_a.now held_b.now) plan.now (now_of (A.side a.old) (A.waiting a.old)) (now_of (A.side a.new) (A.waiting a.new)) result }
     ensures answer_b { B.tells b.old → WritesAnswer (B.waits b.old) side.B (sources held_a.now held_b.now) plan.now (now_of (B.side b.old) (B.waiting b.old)) (now_of (B.side b.new) (B.waiting b.new)) result }
-    ensures fits { IfOk result (IsWhole plan.now) }
+    ensures fits { IfOk result (IsWhole (sources held_a.now held_b.now) plan.now) }
     ensures causes { IfOk result (AreCaused (Rose (A.count a.old) (A.count a.new)) (Rose (B.count b.old) (B.count b.new))) }
     ensures kind_a { Stays A.waits A.is_sure a.old a.new }
     ensures kind_b { Stays B.waits B.is_sure b.old b.new }

@@ -5,7 +5,7 @@ ghost use Rattle.outside.specs.Causes.{Rose};
 ghost use Rattle.store_model.specs.Sides.{IsAnyEvent};
 ghost use Rattle.store_model.specs.StoreCalls.{Changes, Stays, Keeps};
 ghost use Rattle.store_model.specs.declared.store.StoreError.TheVariants as error_of;
-ghost use Rattle.job_writes.specs.Writings.{row_beside, now_of, CopyAnswer, OverAnswer, RemovalAnswer, IsPut, IsRemoval, IsCausedOn};
+ghost use Rattle.job_writes.specs.Writings.{row_beside, now_of, CopyAnswer, OverAnswer, RemovalAnswer, IsPut, IsRowOf, IsRemoval, IsCausedOn};
 
 use crate::outcome::Outcome;
 use crate::sources::Source;
@@ -72,6 +72,7 @@ pub fn copy_to<S: Store>(
     ensures changes { Changes S.count S.tells S.side IsAnyEvent store.old store.new }
     ensures answer { S.tells store.old → CopyAnswer (S.waits store.old) side from.entry.seen.now from.entry.item.now (now_of (S.side store.old) (S.waiting store.old)) (now_of (S.side store.new) (S.waiting store.new)) result }
     ensures fits { IfOk result (IsPut side) }
+    ensures named { IfOk result (IsRowOf from.entry.seen.now.ident) }
     ensures cause { IfOk result (IsCausedOn side (Rose (S.count store.old) (S.count store.new))) }
     ensures kind { Stays S.waits S.is_sure store.old store.new }
     ensures kept { Keeps S.is_listed S.recalls store.old store.new }
@@ -98,6 +99,7 @@ pub fn write_over<S: Store>(
     ensures changes { Changes S.count S.tells S.side IsAnyEvent store.old store.new }
     ensures answer { S.tells store.old → OverAnswer (S.waits store.old) side over.now from.entry.seen.now from.entry.item.now (now_of (S.side store.old) (S.waiting store.old)) (now_of (S.side store.new) (S.waiting store.new)) result }
     ensures fits { IfOk result (IsPut side) }
+    ensures named { IfOk result (IsRowOf from.entry.seen.now.ident) }
     ensures cause { IfOk result (IsCausedOn side (Rose (S.count store.old) (S.count store.new))) }
     ensures kind { Stays S.waits S.is_sure store.old store.new }
     ensures kept { Keeps S.is_listed S.recalls store.old store.new }

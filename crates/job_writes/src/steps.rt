@@ -5,7 +5,7 @@ ghost use Rattle.outside.specs.Causes.{Rose};
 ghost use Rattle.store_model.specs.Sides.{IsAnyEvent};
 ghost use Rattle.store_model.specs.StoreCalls.{Changes, Stays, Keeps};
 ghost use Rattle.sync_plan.specs.declared.report.Side.TheVariants as side;
-ghost use Rattle.job_writes.specs.Writings.{now_of, sources, IsPut, IsRemoval, FitsPut, FitsRemoval, CopyStep, OverStep, RemovalStep, PutStep, RemovalTurn, IsCausedOn, IsCausedOutcome};
+ghost use Rattle.job_writes.specs.Writings.{now_of, sources, IsPut, IsRemoval, IsRowFrom, IsNamedFor, FitsPut, FitsRemoval, CopyStep, OverStep, RemovalStep, PutStep, RemovalTurn, IsCausedOn, IsCausedOutcome};
 
 use crate::outcome::Outcome;
 use crate::putting::{copy_to, remove_from, write_over};
@@ -27,6 +27,7 @@ fn copy_step<S: Store>(
     ensures changes { Changes S.count S.tells S.side IsAnyEvent store.old store.new }
     ensures answer { S.tells store.old → CopyStep (S.waits store.old) side other.now place (now_of (S.side store.old) (S.waiting store.old)) (now_of (S.side store.new) (S.waiting store.new)) result }
     ensures fits { IfOk result (IsPut side) }
+    ensures named { IfOk result (IsRowFrom other.now place) }
     ensures cause { IfOk result (IsCausedOn side (Rose (S.count store.old) (S.count store.new))) }
     ensures kind { Stays S.waits S.is_sure store.old store.new }
     ensures kept { Keeps S.is_listed S.recalls store.old store.new }
@@ -53,6 +54,7 @@ fn over_step<S: Store>(
     ensures changes { Changes S.count S.tells S.side IsAnyEvent store.old store.new }
     ensures answer { S.tells store.old → OverStep (S.waits store.old) side own.now own_place other.now place (now_of (S.side store.old) (S.waiting store.old)) (now_of (S.side store.new) (S.waiting store.new)) result }
     ensures fits { IfOk result (IsPut side) }
+    ensures named { IfOk result (IsRowFrom other.now place) }
     ensures cause { IfOk result (IsCausedOn side (Rose (S.count store.old) (S.count store.new))) }
     ensures kind { Stays S.waits S.is_sure store.old store.new }
     ensures kept { Keeps S.is_listed S.recalls store.old store.new }
@@ -84,6 +86,7 @@ pub fn put_step<A: Store, B: Store>(
     ensures answer_a { A.tells a.old → PutStep (A.waits a.old) side.A (sources held_a.now held_b.now) planned.now (now_of (A.side a.old) (A.waiting a.old)) (now_of (A.side a.new) (A.waiting a.new)) result }
     ensures answer_b { B.tells b.old → PutStep (B.waits b.old) side.B (sources held_a.now held_b.now) planned.now (now_of (B.side b.old) (B.waiting b.old)) (now_of (B.side b.new) (B.waiting b.new)) result }
     ensures fits { IfOk result (FitsPut planned.now.step) }
+    ensures named { IfOk result (IsNamedFor (sources held_a.now held_b.now) planned.now) }
     ensures cause { IfOk result (IsCausedOutcome (Rose (A.count a.old) (A.count a.new)) (Rose (B.count b.old) (B.count b.new))) }
     ensures kind_a { Stays A.waits A.is_sure a.old a.new }
     ensures kind_b { Stays B.waits B.is_sure b.old b.new }

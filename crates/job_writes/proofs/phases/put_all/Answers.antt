@@ -1,7 +1,7 @@
 use Rattle.std.proofs.Common.{◌∙◌, subst, get_or, Bool, false, arith}
 use Rattle.store_model.proofs.Moments.{Changes-trans}
 use Rattle.sync_plan.specs.declared.report.Side.TheVariants.{A, B}
-use Rattle.job_writes.specs.Writings.{now_of, sources, FitsPut, PutDid, IsCausedOutcome}
+use Rattle.job_writes.specs.Writings.{now_of, sources, IsNamedFor, FitsPut, PutDid, IsCausedOutcome}
 use Rattle.job_writes.proofs.CauseLemmas.{cause_extends, causes_extend}
 use Rattle.job_writes.proofs.OrderLemmas.{no_step, order_turn, fit_turn, all_turn, put_tried, puts_end}
 use Rattle.job_writes.proofs.phases.put_all.Goals as goal
@@ -53,6 +53,7 @@ loop-planned-preserved g c =
           order_turn (λ failed. PutDid (g.B.Store.waits c.args.b.now) B (sources c.args.held_a.now c.args.held_b.now)) false c.args.plan.now c.loop-planned.planned-index no_step c.loop-planned.outcomes.items c.add.new.outcomes.items c.in-Ok.outcome (now_of (g.B.Store.side c.args.b.now) (g.B.Store.waiting c.args.b.now)) (now_of (g.B.Store.side c.loop-planned.b) (g.B.Store.waiting c.loop-planned.b)) (now_of (g.B.Store.side c.put_step.new.b) (g.B.Store.waiting c.put_step.new.b)) c.loop-planned-test.true c.in-Ok-add.ensures (inv.done_b told)
           (subst (λ (w : Bool). PutDid w B (sources c.args.held_a.now c.args.held_b.now) (get_or c.args.plan.now c.loop-planned.planned-index no_step) (now_of (g.B.Store.side c.loop-planned.b) (g.B.Store.waiting c.loop-planned.b)) (now_of (g.B.Store.side c.put_step.new.b) (g.B.Store.waiting c.put_step.new.b)) c.in-Ok.outcome) inv.kind_b.0 (c.in-Ok.ensures.answer_b mid.0));
       fits = fit_turn (λ failed p. FitsPut p.step) false c.args.plan.now c.loop-planned.planned-index no_step c.loop-planned.outcomes.items c.add.new.outcomes.items c.in-Ok.outcome c.loop-planned-test.true c.in-Ok-add.ensures inv.fits c.in-Ok.ensures.fits;
+      named = fit_turn (λ failed. IsNamedFor (sources c.args.held_a.now c.args.held_b.now)) false c.args.plan.now c.loop-planned.planned-index no_step c.loop-planned.outcomes.items c.add.new.outcomes.items c.in-Ok.outcome c.loop-planned-test.true c.in-Ok-add.ensures inv.named c.in-Ok.ensures.named;
       causes = all_turn (IsCausedOutcome _ _) c.loop-planned.outcomes.items c.add.new.outcomes.items c.in-Ok.outcome c.in-Ok-add.ensures
           (causes_extend (g.A.Store.count c.args.a.now) (g.A.Store.count c.loop-planned.a) (g.A.Store.count c.put_step.new.a) (g.B.Store.count c.args.b.now) (g.B.Store.count c.loop-planned.b) (g.B.Store.count c.put_step.new.b) c.put_step.ensures.changes_a.later c.put_step.ensures.changes_b.later c.loop-planned.outcomes.items inv.causes)
           (cause_extends (g.A.Store.count c.args.a.now) (g.A.Store.count c.loop-planned.a) (g.A.Store.count c.put_step.new.a) (g.A.Store.count c.put_step.new.a) (g.B.Store.count c.args.b.now) (g.B.Store.count c.loop-planned.b) (g.B.Store.count c.put_step.new.b) (g.B.Store.count c.put_step.new.b) inv.changes_a.later (omega arith) inv.changes_b.later (omega arith) c.in-Ok.outcome c.in-Ok.ensures.cause);

@@ -4,7 +4,7 @@ use Rattle.outside.specs.Causes.{Rose}
 use Rattle.store_model.specs.Sides.{IsAnyEvent}
 use Rattle.store_model.specs.StoreCalls.{Changes, Stays}
 use Rattle.sync_plan.specs.declared.report.Side.TheVariants.{A, B}
-use Rattle.job_writes.specs.Writings.{now_of, sources, FitsPut, AllFit, InOrder, PutDid, IsCausedOutcome}
+use Rattle.job_writes.specs.Writings.{now_of, sources, IsNamedFor, FitsPut, AllFit, InOrder, PutDid, IsCausedOutcome}
 use Rattle.job_writes.proofs.phases.put_all.Given as goal
 
 abbrev pub invariant-loop-planned : goal.invariant-loop-planned
@@ -14,6 +14,7 @@ invariant-loop-planned g l = record {
   done_a : g.A.Store.tells l.fn.a → InOrder (λ failed. PutDid (g.A.Store.waits l.fn.a) A (sources l.held_a l.held_b)) false (take l.planned-index l.plan) l.outcomes.items (now_of (g.A.Store.side l.fn.a) (g.A.Store.waiting l.fn.a)) (now_of (g.A.Store.side l.a) (g.A.Store.waiting l.a));
   done_b : g.B.Store.tells l.fn.b → InOrder (λ failed. PutDid (g.B.Store.waits l.fn.b) B (sources l.held_a l.held_b)) false (take l.planned-index l.plan) l.outcomes.items (now_of (g.B.Store.side l.fn.b) (g.B.Store.waiting l.fn.b)) (now_of (g.B.Store.side l.b) (g.B.Store.waiting l.b));
   fits : AllFit (λ failed p. FitsPut p.step) false (take l.planned-index l.plan) l.outcomes.items;
+  named : AllFit (λ failed. IsNamedFor (sources l.held_a l.held_b)) false (take l.planned-index l.plan) l.outcomes.items;
   causes : AllByRecursion (IsCausedOutcome (Rose (g.A.Store.count l.fn.a) (g.A.Store.count l.a)) (Rose (g.B.Store.count l.fn.b) (g.B.Store.count l.b))) l.outcomes.items;
   kind_a : Stays g.A.Store.waits g.A.Store.is_sure l.fn.a l.a;
   kind_b : Stays g.B.Store.waits g.B.Store.is_sure l.fn.b l.b;

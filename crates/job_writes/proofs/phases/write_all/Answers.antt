@@ -66,7 +66,7 @@ returns-in-Err-remove_all-clause-answer_b g c told =
 
 pub returns-in-Ok-remove_all-clause-fits : goal.returns-in-Ok-remove_all-clause-fits
 returns-in-Ok-remove_all-clause-fits g c =
-    record { put = c.in-Ok.ensures.fits; removed = subst (λ (h : Bool). AllFit (λ failed p. FitsRemoval failed p.step) h c.args.plan.now c.in-Ok-remove_all.removed.items) (rw c.deref.ensures.value at c.any_failure-failed.ensures) c.in-Ok-remove_all.ensures.fits }
+    record { named = c.in-Ok.ensures.named; put = c.in-Ok.ensures.fits; removed = subst (λ (h : Bool). AllFit (λ failed p. FitsRemoval failed p.step) h c.args.plan.now c.in-Ok-remove_all.removed.items) (rw c.deref.ensures.value at c.any_failure-failed.ensures) c.in-Ok-remove_all.ensures.fits }
 
 pub returns-in-Ok-remove_all-clause-causes : goal.returns-in-Ok-remove_all-clause-causes
 returns-in-Ok-remove_all-clause-causes g c =
