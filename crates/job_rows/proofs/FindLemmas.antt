@@ -1,8 +1,8 @@
 -- The row of an ident by a search among rows in byte order of idents.
-use Rattle.std.proofs.Common.{◌≡◌, ◌⊎◌, inl, inr, ℕ, zero, suc, ◌+◌, ◌<◌, ◌≤◌, Bool, true, false, List, [], ◌∷◌, map, length, get_or, slice_get, Option, Some, None, Less, Equal, Greater, refl, sym, ◌∙◌, ap, subst, arith}
+use Rattle.std.proofs.Common.{◌≡◌, inl, inr, ℕ, zero, suc, ◌+◌, ◌<◌, false, List, [], ◌∷◌, length, get_or, Some, None, Less, Equal, Greater, sym, ◌∙◌, ap, arith}
 use native.Mathlib.Numerals.{unary_clauses}
-use Rattle.std.specs.List.{AllByRecursion, AllWithin, HoldsAt}
-use Rattle.std.specs.List.Sorted.{IsNonDecreasingBy, IsPartitionPoint, IsSortedBy}
+use Rattle.std.specs.List.{AllByRecursion, HoldsAt}
+use Rattle.std.specs.List.Sorted.{IsNonDecreasingBy, IsPartitionPoint}
 use Rattle.std.specs.Ordering.{is_lt, nat_cmp, ordering_index, ordering_reverse}
 use Rattle.std.specs.Cmp.{tied_itself}
 use Rattle.std.specs.Cmp.Lexicographic.{slice_cmp, nat_list_cmp_total}

@@ -1,8 +1,7 @@
 -- The rows that a run comes to rise, and each is of its step's ident.
-use Rattle.std.proofs.Common.{◌≡◌, ◌⊎◌, inl, inr, ℕ, Bool, true, false, cond, ◌||◌, List, [], ◌∷◌, map, Option, Some, None, refl, sym, ◌∙◌, ap, subst}
+use Rattle.std.proofs.Common.{◌≡◌, inl, inr, ℕ, Bool, true, false, cond, ◌||◌, List, [], ◌∷◌, Option, Some, None, refl, sym, ◌∙◌, ap, subst}
 use Rattle.std.specs.List.{AllByRecursion, cons_option}
 use Rattle.std.specs.Str.{bytes_eq}
-use Rattle.std.proofs.lemmas.Bool.{false≢true}
 use Rattle.std.proofs.lemmas.Slice.Eq.{bytes_eq-Decides}
 use Rattle.status_keeper.specs.declared.row.Row.{Row}
 use Rattle.status_keeper.specs.Idents.{Precedes, IsRising}
@@ -15,12 +14,12 @@ use Rattle.sync_plan.specs.declared.report.Side.TheVariants.{A, B}
 use Rattle.sync_plan.specs.declared.seen.Seen.{Seen}
 use Rattle.sync_plan.specs.declared.seen.Planned.{Planned}
 use Rattle.sync_plan.specs.Merging.{row_ident}
-use Rattle.sync_plan.specs.Plans.{first_of, IsPlaceOf, IsPlannedFor, planned_idents}
+use Rattle.sync_plan.specs.Plans.{IsPlaceOf, IsPlannedFor, planned_idents}
 use Rattle.sync_plan.proofs.Rising.{first_cases, row_is_first, precedes_differs}
 use Rattle.side_reads.specs.declared.holding.Holding.{Holding}
 use Rattle.job_writes.specs.declared.outcome.Outcome.{Outcome}
 use Rattle.job_writes.specs.declared.outcome.Outcome.TheVariants.{Kept, Gone, Written, Left, Conflict, NotWritten, NotRemoved, Skipped}
-use Rattle.job_writes.specs.Writings.{Sources, seen_at, FitsPut, FitsRemoval, IsPut, IsRemoval, IsRowOf, IsRowFrom, IsNamedBy, IsNamedFor, AllFit, is_failure}
+use Rattle.job_writes.specs.Writings.{Sources, seen_at, FitsPut, FitsRemoval, IsRemoval, IsRowOf, IsRowFrom, IsNamedBy, IsNamedFor, AllFit, is_failure}
 use Rattle.job_rows.specs.RowsAfter.{outcome_of, row_of_both, row_kept, row_after, rows_after, IsStepAt}
 
 seen_named : (ident : List ℕ) (held : Holding) (place : Option ℕ) (s : Seen) → IsPlaceOf ident held.seen.items place → seen_at held place ≡ Some s → s.ident ≡ ident

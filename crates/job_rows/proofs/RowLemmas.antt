@@ -1,5 +1,5 @@
 -- The rows of the first steps of a plan, and of one more.
-use Rattle.std.proofs.Common.{◌≡◌, ◌≢◌, ◌⊎◌, inl, inr, ℕ, zero, suc, ◌+◌, ◌<◌, ◌≤◌, Bool, true, false, ◌||◌, List, [], ◌∷◌, ◌++◌, length, take, get_or, Option, Some, None, refl, sym, ◌∙◌, ap, subst, arith}
+use Rattle.std.proofs.Common.{◌≡◌, ℕ, suc, ◌+◌, ◌<◌, ◌≤◌, Bool, true, false, ◌||◌, List, [], ◌∷◌, ◌++◌, length, take, get_or, Option, Some, None, refl, sym, ◌∙◌, ap, subst, arith}
 use Rattle.std.specs.List.{cons_option}
 use Rattle.std.specs.Option.{option_to_list}
 use Rattle.std.proofs.lemmas.Bool.{false≢true}
@@ -25,9 +25,6 @@ cons_append (Some x) xs ys = refl
 cons_last : {X : Type 0} (o : Option X) → cons_option o [] ≡ option_to_list o
 cons_last None = refl
 cons_last (Some x) = refl
-
-
-
 
 module _ (x : Sources) (rows : List Row) where
   abbrev pub next : Planned → Outcome → Outcome → Option Row

@@ -1,8 +1,6 @@
 -- A row that a run makes rests on what was taken of both sides, or on a write whose answer is known.
-use Rattle.std.proofs.Common.{◌≡◌, ◌⊎◌, inl, inr, ℕ, Bool, true, false, ◌||◌, List, [], ◌∷◌, Option, Some, None, option_map, refl, sym, ap, ◌∙◌, subst, Ok}
+use Rattle.std.proofs.Common.{◌≡◌, ◌⊎◌, inl, inr, ℕ, Bool, true, false, ◌||◌, List, [], ◌∷◌, Option, Some, None, refl, sym, ap, ◌∙◌, subst}
 use Rattle.std.specs.List.{AllByRecursion}
-use Rattle.item_text.specs.Items.{ItemValue}
-use Rattle.store_model.specs.Sides.{SideState, Evolves}
 use Rattle.store_model.specs.Waits.{Change, Flushes, new_at, over_at, gone_at}
 use Rattle.status_keeper.specs.declared.row.Row.{Row}
 use Rattle.status_keeper.specs.Idents.{Precedes, IsRising}
@@ -14,20 +12,20 @@ use Rattle.sync_plan.specs.declared.dues.Step.TheVariants as step
 use Rattle.sync_plan.specs.declared.seen.Seen.{Seen}
 use Rattle.sync_plan.specs.declared.seen.Planned.{Planned}
 use Rattle.sync_plan.specs.Plans.{seen_of, planned_idents}
-use Rattle.sync_plan.specs.Verdicts.{Versions, other_side, step_of}
+use Rattle.sync_plan.specs.Verdicts.{other_side, step_of}
 use Rattle.sync_plan.specs.JobSteps.{on_side, written}
 use Rattle.sync_plan.proofs.Rising.{precedes_differs}
 use Rattle.side_reads.specs.Places.{href_on, etag_on}
 use Rattle.job_runs.specs.Courses.{Course}
 use Rattle.job_runs.specs.Writes.{WroteFor, IsEtagOf}
 use Rattle.job_writes.specs.declared.outcome.Outcome.{Outcome}
-use Rattle.job_writes.specs.declared.outcome.Outcome.TheVariants.{Kept, Gone, Written, Left, Conflict, NotWritten, NotRemoved, Skipped}
-use Rattle.job_writes.specs.Writings.{SideNow, Sources, CopyDid, OverDid, RemovalDid, held_on, place_on, seen_at, PutBy, PutDid, PutTried, RemovalBy, RemovalDone, RemovalTried, InOrder, AllTried, AllFit, FitsRemoval, is_failure, failed_after, row_beside}
+use Rattle.job_writes.specs.declared.outcome.Outcome.TheVariants.{Gone, Written}
+use Rattle.job_writes.specs.Writings.{SideNow, Sources, CopyDid, OverDid, RemovalDid, held_on, place_on, seen_at, PutBy, PutDid, RemovalBy, RemovalDone, InOrder, AllFit, FitsRemoval, is_failure, failed_after, row_beside}
 use Rattle.job_writes.proofs.OrderLemmas.{put_tried, removal_tried}
 use Rattle.job_traces.specs.Traces.{IsWriteFor}
-use Rattle.job_traces.proofs.WriteLemmas.{IsOther, IsFresh, IsSentFor, HasActed, sent_other, sent_own, sent_flushed}
-use Rattle.job_traces.proofs.StepLemmas.{at_place, place_of, versions_at, Knows, IsPlanned, Affects, IsPutStep, IsRemovalStep, not_both, copy_write, over_write, removal_write, copy_says, over_says, removal_says}
-use Rattle.job_traces.proofs.RunLemmas.{Effect, put_effect, removal_effect, saw, says, other_of, fresh_by_other, decide, all_fresh, own_kind, own_step}
+use Rattle.job_traces.proofs.WriteLemmas.{IsFresh, IsSentFor, HasActed, sent_other, sent_own, sent_flushed}
+use Rattle.job_traces.proofs.StepLemmas.{at_place, place_of, versions_at, Knows, IsPlanned, IsPutStep, IsRemovalStep, not_both, copy_write, over_write, removal_write, copy_says, over_says, removal_says}
+use Rattle.job_traces.proofs.RunLemmas.{Effect, put_effect, removal_effect, saw, says, other_of, fresh_by_other, decide, own_kind, own_step}
 
 -- the step and its outcome stand at one place of their lists
 abbrev pub IsAt : Planned → Outcome → List Planned → List Outcome → Type 0

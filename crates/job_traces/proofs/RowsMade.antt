@@ -12,23 +12,23 @@ use Rattle.sync_plan.specs.declared.dues.Step.{Step}
 use Rattle.sync_plan.specs.declared.dues.Step.TheVariants as step
 use Rattle.sync_plan.specs.declared.seen.Seen.{Seen}
 use Rattle.sync_plan.specs.declared.seen.Planned.{Planned}
-use Rattle.sync_plan.specs.Plans.{seen_of, versions_of, IsPlaceOf, IsPlannedFor, planned_idents}
-use Rattle.sync_plan.specs.Verdicts.{Versions, step_of, due_of}
+use Rattle.sync_plan.specs.Plans.{seen_of, IsPlaceOf, IsPlannedFor, planned_idents}
+use Rattle.sync_plan.specs.Verdicts.{step_of, due_of}
 use Rattle.sync_plan.specs.JobSteps.{written}
 use Rattle.sync_plan.proofs.Facts.{Fits, verdict_fits}
 use Rattle.side_reads.specs.Places.{href_on, etag_on}
 use Rattle.side_reads.specs.declared.holding.Holding.{Holding}
 use Rattle.job_runs.specs.Courses.{Course}
-use Rattle.job_runs.specs.Writes.{WroteFor, WroteSome}
+use Rattle.job_runs.specs.Writes.{WroteSome}
 use Rattle.job_writes.specs.declared.outcome.Outcome.{Outcome}
 use Rattle.job_writes.specs.declared.outcome.Outcome.TheVariants.{Kept, Gone, Written, Left, Conflict, NotWritten, NotRemoved, Skipped}
 use Rattle.job_writes.specs.declared.phases.Outcomes.{Outcomes}
 use Rattle.job_writes.specs.Writings.{SideNow, Sources, seen_at, WritesDid, IsWhole, AllFit, FitsPut, FitsRemoval, IsPut, IsRemoval, failed_after, is_failure}
 use Rattle.job_rows.specs.RowsAfter.{outcome_of, row_of_both, row_kept, row_after, IsStepAt}
 use Rattle.job_traces.proofs.WriteLemmas.{IsFresh}
-use Rattle.job_traces.proofs.StepLemmas.{Knows, IsPlanned, IsPutStep, IsRemovalStep}
-use Rattle.job_traces.proofs.MadeLemmas.{IsAt, IsWroteRow, put_wrote, removal_wrote}
-use Rattle.job_traces.proofs.StepRows.{v, says_on, Made, IsTakenBy, IsPlaceTaken, made_still, made_on_a, made_on_b, row_on_a, row_on_b, place_taken, seen_is}
+use Rattle.job_traces.proofs.StepLemmas.{Knows, IsPutStep, IsRemovalStep}
+use Rattle.job_traces.proofs.MadeLemmas.{IsAt, put_wrote, removal_wrote}
+use Rattle.job_traces.proofs.StepRows.{v, says_on, Made, IsPlaceTaken, made_still, made_on_a, made_on_b, row_on_a, row_on_b, place_taken, seen_is}
 
 -- ---- a step and its outcomes
 
@@ -119,11 +119,12 @@ module _ (a b : Course) (x : Sources) (rows : List Row) (rules : Rules) (waits_a
         inr (subst (λ (o : Option Row). Made a b x rows rules ident o) (sym is_row)
         (made_still a b x rows rules ident (Some (row_of_both s t)) (says step.Keep A is) (says step.Keep B is) (ran.wrote_a ident) (ran.wrote_b ident) (fits.2 ∙ ap Some (sym here.3)) (fits.3 ∙ ap Some (sym here.3))
         (λ r e.
-            let one : row_of_both s t ≡ r = cc in
-            subst (λ (y : Row). (y.ident ≡ ident) × IsPlaceTaken a ident y × IsPlaceTaken b ident y) one
-            ((seen_is ident x.a.seen.items s here.2).1,
-            place_taken a ident x.a.seen.items (row_of_both s t) s (ran.knows_a).taken here.2 (ap (λ (d : Side). href_on d (row_of_both s t)) ran.side_a) (ap (λ (d : Side). etag_on d (row_of_both s t)) ran.side_a) refl,
-            place_taken b ident x.b.seen.items (row_of_both s t) t (ran.knows_b).taken there.2 (ap (λ (d : Side). href_on d (row_of_both s t)) ran.side_b) (ap (λ (d : Side). etag_on d (row_of_both s t)) ran.side_b) (here.3 ∙ sym there.3)))))
+        let one : row_of_both s t ≡ r = cc in
+        subst (λ (y : Row). (y.ident ≡ ident) × IsPlaceTaken a ident y × IsPlaceTaken b ident y) one (
+          (seen_is ident x.a.seen.items s here.2).1,
+          place_taken a ident x.a.seen.items (row_of_both s t) s (ran.knows_a).taken here.2 (ap (λ (d : Side). href_on d (row_of_both s t)) ran.side_a) (ap (λ (d : Side). etag_on d (row_of_both s t)) ran.side_a) refl,
+          place_taken b ident x.b.seen.items (row_of_both s t) t (ran.knows_b).taken there.2 (ap (λ (d : Side). href_on d (row_of_both s t)) ran.side_b) (ap (λ (d : Side). etag_on d (row_of_both s t)) ran.side_b) (here.3 ∙ sym there.3),
+        ))))
 
     no_row : {T : Type 0} (o : Option Row) → o ≡ None → (r : Row) → o ≡ Some r → T
     no_row o none r e = absurd (let clash : None ≡ Some r = sym none ∙ e in cc)

@@ -1,34 +1,23 @@
 -- The row of an ident at the end is the one before, or is made of what both sides have come to.
-use Rattle.std.proofs.Common.{◌≡◌, ◌⊎◌, inl, inr, ℕ, Bool, true, false, List, [], ◌∷◌, Option, Some, None, option_map, slice_get, refl, sym, ap, ◌∙◌, subst}
-use Rattle.std.specs.List.{AllByRecursion}
-use Rattle.std.proofs.lemmas.List.Elements.{recursion_from_All}
-use Rattle.store_model.specs.Sides.{SideState, Evolves}
-use Rattle.store_model.specs.Waits.{Flushes}
-use Rattle.store_model.proofs.Moments.{Evolves-refl}
+use Rattle.std.proofs.Common.{◌≡◌, inl, inr, ℕ, Bool, List, Option, Some, None, option_map, refl, sym, ap, ◌∙◌, subst}
+use Rattle.store_model.specs.Sides.{Evolves}
 use Rattle.status_keeper.specs.declared.row.Row.{Row}
-use Rattle.status_keeper.specs.Rows.{row_of}
 use Rattle.sync_plan.specs.declared.report.Side.{Side}
 use Rattle.sync_plan.specs.declared.report.Side.TheVariants.{A, B}
 use Rattle.sync_plan.specs.declared.rules.Rules.{Rules}
-use Rattle.sync_plan.specs.declared.dues.Step.{Step}
-use Rattle.sync_plan.specs.declared.dues.Step.TheVariants as step
 use Rattle.sync_plan.specs.declared.seen.Seen.{Seen}
-use Rattle.sync_plan.specs.declared.seen.Planned.{Planned}
 use Rattle.sync_plan.specs.Merging.{Within}
-use Rattle.sync_plan.specs.Plans.{seen_of, versions_of, IsPlannedFor, planned_idents}
-use Rattle.sync_plan.specs.Verdicts.{Versions, other_side, step_of, due_of}
-use Rattle.sync_plan.specs.JobSteps.{on_side, written}
-use Rattle.sync_plan.proofs.Facts.{Fits, verdict_fits}
+use Rattle.sync_plan.specs.Plans.{seen_of, versions_of}
+use Rattle.sync_plan.specs.Verdicts.{Versions, other_side, step_of}
+use Rattle.sync_plan.specs.JobSteps.{written}
 use Rattle.sync_plan.proofs.Rising.{first_cases}
 use Rattle.side_reads.specs.Places.{href_on, etag_on}
 use Rattle.job_runs.specs.Courses.{Course}
 use Rattle.job_runs.specs.Taken.{IsTaken}
-use Rattle.job_runs.specs.Writes.{IsForOthers, WroteFor, WroteAll, WroteSome, after_all, IsPlace, IsEtagOf}
+use Rattle.job_runs.specs.Writes.{IsForOthers, WroteFor, WroteAll, WroteSome, IsEtagOf}
 use Rattle.job_runs.specs.Jobs.{IsMade}
-use Rattle.job_writes.specs.declared.outcome.Outcome.{Outcome}
-use Rattle.job_writes.specs.declared.outcome.Outcome.TheVariants.{Kept, Gone, Written, Left, Conflict, NotWritten, NotRemoved, Skipped}
-use Rattle.job_writes.specs.Writings.{Sources, held_on, row_beside}
-use Rattle.job_traces.proofs.StepLemmas.{versions_at, Knows, IsPlanned, version_at}
+use Rattle.job_writes.specs.Writings.{Sources, row_beside}
+use Rattle.job_traces.proofs.StepLemmas.{Knows}
 use Rattle.job_traces.proofs.MadeLemmas.{IsWroteRow}
 
 -- of this side the row has the place of the seen item
@@ -151,11 +140,12 @@ module _ (a b : Course) (x : Sources) (rows : List Row) (rules : Rules) (ident :
       let source = place_of_source A w.from (w.wrote).href w.etag in
       made_on_a w.to (Some row) w.is none_b w.wrote wrote_b (to_is ∙ (version ∙ ap Some (sym same_version))) (version ∙ ap Some (sym same_version))
       (λ r is.
-          let one : row ≡ r = cc in
-          subst (λ (y : Row). (y.ident ≡ ident) × ((href_on a.side y ≡ Some (w.wrote).href) × IsEtagOf (etag_on a.side y) (w.wrote).new) × IsPlaceTaken b ident y) one
-          (ap (λ (y : Row). y.ident) w.is_row ∙ (beside.0 ∙ (seen_is ident x.b.seen.items w.from first).1),
-          (ap (λ (s : Side). href_on s row) side_a ∙ (ap (href_on A) w.is_row ∙ written.0), subst (λ (o : Option (List ℕ)). IsEtagOf o (w.wrote).new) (sym (ap (λ (s : Side). etag_on s row) side_a ∙ (ap (etag_on A) w.is_row ∙ written.1))) w.told),
-          place_taken b ident x.b.seen.items row w.from taken first (ap (λ (s : Side). href_on s row) side_b ∙ (ap (href_on B) w.is_row ∙ source.0)) (ap (λ (s : Side). etag_on s row) side_b ∙ (ap (etag_on B) w.is_row ∙ source.1)) same_version))
+      let one : row ≡ r = cc in
+      subst (λ (y : Row). (y.ident ≡ ident) × ((href_on a.side y ≡ Some (w.wrote).href) × IsEtagOf (etag_on a.side y) (w.wrote).new) × IsPlaceTaken b ident y) one (
+        ap (λ (y : Row). y.ident) w.is_row ∙ (beside.0 ∙ (seen_is ident x.b.seen.items w.from first).1),
+        (ap (λ (s : Side). href_on s row) side_a ∙ (ap (href_on A) w.is_row ∙ written.0), subst (λ (o : Option (List ℕ)). IsEtagOf o (w.wrote).new) (sym (ap (λ (s : Side). etag_on s row) side_a ∙ (ap (etag_on A) w.is_row ∙ written.1))) w.told),
+        place_taken b ident x.b.seen.items row w.from taken first (ap (λ (s : Side). href_on s row) side_b ∙ (ap (href_on B) w.is_row ∙ source.0)) (ap (λ (s : Side). etag_on s row) side_b ∙ (ap (etag_on B) w.is_row ∙ source.1)) same_version,
+      ))
 
   pub row_on_b : (waits : Bool) (knows : Knows b a B x rows rules) (row : Row) → a.side ≡ A → b.side ≡ B → says_on A ≡ None → says_on B ≡ Some v.a → IsTakenBy a x.a.seen.items → IsWroteRow b a B x rows rules ident waits knows row → WroteSome a b ident v.a (says_on A) → Made (Some row)
   row_on_b waits knows row side_a side_b none_a is_b taken w wrote_a =
@@ -168,8 +158,9 @@ module _ (a b : Course) (x : Sources) (rows : List Row) (rules : Rules) (ident :
       let source = place_of_source B w.from (w.wrote).href w.etag in
       made_on_b w.to (Some row) none_a w.is wrote_a w.wrote (version ∙ ap Some (sym same_version)) (to_is ∙ (version ∙ ap Some (sym same_version)))
       (λ r is.
-          let one : row ≡ r = cc in
-          subst (λ (y : Row). (y.ident ≡ ident) × IsPlaceTaken a ident y × ((href_on b.side y ≡ Some (w.wrote).href) × IsEtagOf (etag_on b.side y) (w.wrote).new)) one
-          (ap (λ (y : Row). y.ident) w.is_row ∙ (beside.0 ∙ (seen_is ident x.a.seen.items w.from first).1),
-          place_taken a ident x.a.seen.items row w.from taken first (ap (λ (s : Side). href_on s row) side_a ∙ (ap (href_on A) w.is_row ∙ source.0)) (ap (λ (s : Side). etag_on s row) side_a ∙ (ap (etag_on A) w.is_row ∙ source.1)) same_version,
-          (ap (λ (s : Side). href_on s row) side_b ∙ (ap (href_on B) w.is_row ∙ written.0), subst (λ (o : Option (List ℕ)). IsEtagOf o (w.wrote).new) (sym (ap (λ (s : Side). etag_on s row) side_b ∙ (ap (etag_on B) w.is_row ∙ written.1))) w.told)))
+      let one : row ≡ r = cc in
+      subst (λ (y : Row). (y.ident ≡ ident) × IsPlaceTaken a ident y × ((href_on b.side y ≡ Some (w.wrote).href) × IsEtagOf (etag_on b.side y) (w.wrote).new)) one (
+        ap (λ (y : Row). y.ident) w.is_row ∙ (beside.0 ∙ (seen_is ident x.a.seen.items w.from first).1),
+        place_taken a ident x.a.seen.items row w.from taken first (ap (λ (s : Side). href_on s row) side_a ∙ (ap (href_on A) w.is_row ∙ source.0)) (ap (λ (s : Side). etag_on s row) side_a ∙ (ap (etag_on A) w.is_row ∙ source.1)) same_version,
+        (ap (λ (s : Side). href_on s row) side_b ∙ (ap (href_on B) w.is_row ∙ written.0), subst (λ (o : Option (List ℕ)). IsEtagOf o (w.wrote).new) (sym (ap (λ (s : Side). etag_on s row) side_b ∙ (ap (etag_on B) w.is_row ∙ written.1))) w.told),
+      ))

@@ -235,15 +235,18 @@ module _ (c peer : Course) (ident : List ℕ) where
     sent_other ch etag other s t is (inl (inl outside, same)) sent = sent_more ch etag s t (Evolves-weaker outside_is_for_others outside) same sent
     sent_other ch etag other s t is (inl (inr acts, same)) sent = sent_more ch etag s t (acts_for_others other s.state t.state is acts) same sent
     sent_other ch etag other s t is (inr (outside, same)) (inl (done, told)) = inl (record { acted = acted_more ch s.state t.state done.acted (Evolves-weaker outside_is_for_others outside); waits = subst (λ (w : List Change). AllByRecursion IsOther w) (sym same) (all_push s.waiting other done.waits is) }, told)
-    sent_other ch etag other s t is (inr (outside, same)) (inr (pends, none)) = inr (record {
-      run = Evolves-trans pends.run (Evolves-weaker outside_is_for_others outside);
-      write = pends.write;
-      first = pends.first;
-      rest = pends.rest ++ other ∷ [];
-      waits = same ∙ (ap (λ (w : List Change). w ++ other ∷ []) pends.waits ∙ append_assoc pends.first (ch ∷ pends.rest) (other ∷ []));
-      others_first = pends.others_first;
-      others_rest = all_push pends.rest other pends.others_rest is;
-    }, none)
+    sent_other ch etag other s t is (inr (outside, same)) (inr (pends, none)) = inr (
+      record {
+        run = Evolves-trans pends.run (Evolves-weaker outside_is_for_others outside);
+        write = pends.write;
+        first = pends.first;
+        rest = pends.rest ++ other ∷ [];
+        waits = same ∙ (ap (λ (w : List Change). w ++ other ∷ []) pends.waits ∙ append_assoc pends.first (ch ∷ pends.rest) (other ∷ []));
+        others_first = pends.others_first;
+        others_rest = all_push pends.rest other pends.others_rest is;
+      },
+      none,
+    )
 
     pub sent_own : (waits : Bool) (ch : Change) (etag : Option (List ℕ)) (s t : SideNow) → IsWriteFor c peer ident saw to ch → IsSent waits ch etag s t → IsFresh s → IsSentFor ch etag t
     unfolding acted_by

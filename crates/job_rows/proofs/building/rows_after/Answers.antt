@@ -1,7 +1,4 @@
-use Rattle.std.proofs.Common.{◌≡◌, ◌∙◌, ap, sym, arith, List, Bool, false, length, get_or}
-use Rattle.status_keeper.specs.declared.row.Row.{Row}
-use Rattle.sync_plan.specs.declared.seen.Planned.{Planned}
-use Rattle.job_writes.specs.declared.outcome.Outcome.{Outcome}
+use Rattle.std.proofs.Common.{◌≡◌, ◌∙◌, ap, sym, arith, false, get_or}
 use Rattle.job_writes.specs.Writings.{sources, FitsPut, FitsRemoval, failed_after}
 use Rattle.job_writes.proofs.OrderLemmas.{no_step}
 use Rattle.job_rows.specs.RowsAfter.{row_after, rows_after, IsUnchanged}

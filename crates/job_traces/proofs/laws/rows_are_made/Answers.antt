@@ -7,7 +7,7 @@ use Rattle.job_reads.specs.Readings.{course_of_a, course_of_b}
 use Rattle.job_reads.proofs.TookLemmas.{each_taken, text_read}
 use Rattle.job_writes.specs.Writings.{now_of, sources}
 use Rattle.job_traces.proofs.StepLemmas.{Knows}
-use Rattle.job_traces.proofs.RunLemmas.{wrote, wrote_done}
+use Rattle.job_traces.proofs.RunLemmas.{wrote_done}
 use Rattle.job_traces.proofs.RowsMade.{row_ends}
 use Rattle.job_traces.proofs.laws.rows_are_made.Goals as goal
 
