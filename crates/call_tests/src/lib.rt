@@ -3,7 +3,11 @@
 #![tactic(auto)]
 
 #[cfg(test)]
+mod fetches;
+#[cfg(test)]
 mod items;
+#[cfg(test)]
+mod jobs;
 #[cfg(test)]
 mod memory_folder;
 #[cfg(test)]

@@ -11,7 +11,7 @@ use Rattle.config_model.specs.declared.rules.ConflictRule.TheVariants.{Null, AWi
 use Rattle.config_model.specs.declared.storage_kind.StorageKind.{StorageKind}
 use Rattle.config_model.specs.declared.storage_kind.StorageKind.TheVariants.{Filesystem, Singlefile, Caldav, Carddav}
 use Rattle.config_model.specs.declared.wanted.Wanted.{Wanted}
-use Rattle.config_settle.specs.Texts.{is_text, are_texts}
+use Rattle.config_settle.specs.Texts.{is_text}
 use Rattle.cli_jobs.specs.declared.refusal.Refusal.{Refusal}
 use Rattle.cli_jobs.specs.declared.refusal.Refusal.TheVariants.{NotBuilt}
 use Rattle.cli_jobs.specs.Names.{pair_section}
@@ -69,7 +69,3 @@ fetched_by (Some param) = param.key ++ codes ".fetch"
 -- the first key whose text is fetched
 abbrev pub fetched_key : List Param → List ℕ
 fetched_key params = fetched_by (find (λ p. not (is_text p.value)) params)
-
--- a text that is fetched
-unfoldable pub unbuilt_fetch : StorageConf → Option Refusal
-unbuilt_fetch storage = unbuilt_if (not (are_texts storage.params)) (storage_section storage.name) (fetched_key storage.params)

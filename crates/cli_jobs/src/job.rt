@@ -1,8 +1,9 @@
 //! A job, as a configuration names it.
 
+use sync_plan::Rules;
 use values::Text;
 
-/// The run of one pair: its name, its three folders, and how the names of its items' files end.
+/// The run of one pair: its name, its three folders, how the names of its items' files end, and its rules.
 #[derive(Debug, Drop)]
 pub struct SyncJob {
     pub pair: Text,
@@ -14,6 +15,7 @@ pub struct SyncJob {
     pub status: Text,
     pub ending_a: Text,
     pub ending_b: Text,
+    pub rules: Rules,
 }
 
 /// A storage that is a folder.

@@ -18,6 +18,7 @@ use crate::job::{SyncJob, Vdir};
 use crate::names::{check_names, one_chosen};
 use crate::refusal::Refusal;
 use crate::refused::{not_built, storage_section, unusable};
+use crate::rules::rules_of;
 use cli_words::Name;
 use config_ini::ConfigError;
 use config_model::{Config, PairConf, StorageConf, read_config};
@@ -53,9 +54,27 @@ fn settled(alloc: Global, storage: &StorageConf, home: Option<&str>) -> Result<S
     }
 }
 
-/// The folder of a storage: folders alone are built.
-fn folder_in(alloc: Global, name: &str, settled: Settled) -> Result<Vdir, Refusal>
-    ensures { Comes (spec.folder_in (storage_section name.now) settled) result }
+/// What a storage's texts come to, where none of them is left to fetch.
+#[tactic(auto, unfolding(crate::specs::Jobs::settled_texts))]
+fn settled_texts(
+    alloc: Global,
+    home: Option<&str>,
+    storage: &StorageConf,
+) -> Result<Option<Settled>, Refusal>
+    ensures { Comes (spec.settled_texts (option_copied home.entry) storage.now) result }
+{
+    if !are_texts(storage.params.as_slice()) {
+        return Ok(None);
+    }
+    match settled(alloc, storage, home) {
+        Ok(settled) => Ok(Some(settled)),
+        Err(refusal) => Err(refusal),
+    }
+}
+
+/// Folders alone are built.
+fn folder_by(alloc: Global, name: &str, settled: Settled) -> Result<Vdir, Refusal>
+    ensures { Comes (spec.folder_by (storage_section name.now) settled) result }
 {
     match settled {
         Settled::Vdir { path, ending, .. } => Ok(Vdir { path, ending }),
@@ -71,14 +90,17 @@ fn other_kind(alloc: Global, name: &str) -> Result<Refusal, AllocError>
     not_built(alloc, section.as_str(), "type")
 }
 
-#[tactic(auto, unfolding(crate::specs::Jobs::folder_of))]
-fn folder_of(alloc: Global, home: Option<&str>, storage: &StorageConf) -> Result<Vdir, Refusal>
-    requires { are_texts storage.now.params ≡ true }
-    ensures { Comes (spec.folder_of (option_copied home.entry) storage.now) result }
+/// The folder of a storage, of whose texts some may be left to fetch.
+fn folder_in(
+    alloc: Global,
+    storage: &StorageConf,
+    settled: Option<Settled>,
+) -> Result<Vdir, Refusal>
+    ensures { Comes (spec.folder_in storage.now settled) result }
 {
-    match settled(alloc, storage, home) {
-        Ok(settled) => folder_in(alloc, storage.name.as_str(), settled),
-        Err(refusal) => Err(refusal),
+    match settled {
+        Some(settled) => folder_by(alloc, storage.name.as_str(), settled),
+        None => Err(fetch_not_built(alloc, storage)?),
     }
 }
 
@@ -104,46 +126,25 @@ fn status_place(alloc: Global, status: &str, pair: &str) -> Result<Text, AllocEr
 fn job_over(
     alloc: Global,
     status: &str,
-    pair: &str,
+    pair: &PairConf,
     a: Vdir,
     b: Vdir,
 ) -> Result<SyncJob, AllocError>
     ensures { IfOk result (λ job. job ≡ spec.job_over status.now pair.now a b) }
 {
+    let name = pair.name.as_str();
     Ok(SyncJob {
-        pair: Text::copy_of(alloc, pair)?,
+        pair: Text::copy_of(alloc, name)?,
         a: a.path,
         b: b.path,
-        status: status_place(alloc, status, pair)?,
+        status: status_place(alloc, status, name)?,
         ending_a: a.ending,
         ending_b: b.ending,
+        rules: rules_of(pair),
     })
 }
 
-/// The job over two storages, of which all is built but what is fetched.
-#[tactic(auto, unfolding(crate::specs::Jobs::settled_job, crate::specs::Built::unbuilt_fetch))]
-fn settled_job(
-    alloc: Global,
-    home: Option<&str>,
-    status: &str,
-    pair: &str,
-    a: &StorageConf,
-    b: &StorageConf,
-) -> Result<SyncJob, Refusal>
-    ensures { Comes (spec.settled_job (option_copied home.entry) status.now pair.now a.now b.now) result }
-{
-    if !are_texts(a.params.as_slice()) {
-        return Err(fetch_not_built(alloc, a)?);
-    }
-    if !are_texts(b.params.as_slice()) {
-        return Err(fetch_not_built(alloc, b)?);
-    }
-    let folder_a = folder_of(alloc, home, a)?;
-    let folder_b = folder_of(alloc, home, b)?;
-    Ok(job_over(alloc, status, pair, folder_a, folder_b)?)
-}
-
-/// The same, of which something may not be built.
+/// The job over two storages: of each its texts come first, and then what isn't built.
 #[tactic(auto, unfolding(crate::specs::Jobs::built_job))]
 fn built_job(
     alloc: Global,
@@ -156,9 +157,13 @@ fn built_job(
     ensures { Comes (spec.built_job (option_copied home.entry) status.now pair.now a.now b.now) result }
 {
     check_pair(alloc, pair)?;
+    let texts_a = settled_texts(alloc, home, a)?;
+    let texts_b = settled_texts(alloc, home, b)?;
     check_storage(alloc, a)?;
     check_storage(alloc, b)?;
-    settled_job(alloc, home, status, pair.name.as_str(), a, b)
+    let folder_a = folder_in(alloc, a, texts_a)?;
+    let folder_b = folder_in(alloc, b, texts_b)?;
+    Ok(job_over(alloc, status, pair, folder_a, folder_b)?)
 }
 
 fn found_at<'a>(storages: &'a [StorageConf], name: &str) -> Option<&'a StorageConf>
@@ -258,7 +263,7 @@ fn chosen_job(
 
 /// The job that the bytes of a configuration come to, for the pair that the names choose; none where no pair is chosen.
 /// Refused in this order: what the configuration is refused for, its status path, a name that names nothing, what isn't
-/// built, and what the storages of the pair are refused for.
+/// built of the pair, what the texts of its storages are refused for, and what isn't built of these.
 #[tactic(auto, unfolding(crate::specs::Jobs::job_of))]
 pub fn job_of(
     alloc: Global,

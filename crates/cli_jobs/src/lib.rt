@@ -7,6 +7,7 @@ mod jobs;
 mod names;
 mod refusal;
 mod refused;
+mod rules;
 mod texts;
 
 pub use job::SyncJob;

@@ -1,5 +1,5 @@
 -- The exit status of a command by the reports of its jobs (this project's own).
-use Rattle.std.specs.Prelude.{◌&&◌, not, if◌then◌else◌, ℕ, Bool, true, false, List, [], ◌∷◌}
+use Rattle.std.specs.Prelude.{◌&&◌, not, if◌then◌else◌, ℕ, Bool, true, false, List, []}
 use Rattle.std.specs.List.{list_all, list_any}
 use Rattle.sync_plan.specs.declared.report.Line.{Line}
 use Rattle.sync_plan.specs.declared.report.JobEnd.{JobEnd}

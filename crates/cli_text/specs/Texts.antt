@@ -1,5 +1,5 @@
 -- What is printed of a job (this project's own).
-use Rattle.std.specs.Prelude.{ℕ, List, [], ◌∷◌, ◌++◌, codes}
+use Rattle.std.specs.Prelude.{ℕ, List, [], ◌++◌, codes}
 use Rattle.std.specs.List.{flat_map}
 use Rattle.std.specs.Fmt.{decimal}
 use Rattle.item_text.specs.declared.item.ItemError.{ItemError}
@@ -11,7 +11,7 @@ use Rattle.status_keeper.specs.declared.keeper.KeeperError.TheVariants as keeper
 use Rattle.sync_plan.specs.declared.report.Side.{Side}
 use Rattle.sync_plan.specs.declared.report.Side.TheVariants.{A, B}
 use Rattle.sync_plan.specs.declared.report.What.{What}
-use Rattle.sync_plan.specs.declared.report.What.TheVariants.{NotWritten}
+use Rattle.sync_plan.specs.declared.report.What.TheVariants.{Conflict, NotWritten, NotRemoved, Skipped}
 use Rattle.sync_plan.specs.declared.report.Line.{Line}
 use Rattle.sync_plan.specs.declared.report.Refusal.{Refusal}
 use Rattle.sync_plan.specs.declared.report.Refusal.TheVariants as refusal
@@ -56,7 +56,10 @@ keeper_error_text keeper.TooLong = codes "too long"
 keeper_error_text keeper.NoMemory = codes "out of memory"
 
 abbrev pub what_text : What → List ℕ
+what_text Conflict = codes "conflict, both sides changed"
 what_text (NotWritten side error) = codes "not written to " ++ side_letter side ++ codes ": " ++ store_error_text error
+what_text (NotRemoved side error) = codes "not removed from " ++ side_letter side ++ codes ": " ++ store_error_text error
+what_text Skipped = codes "removal skipped after a failed write"
 
 -- what a line of a report says of its ident
 unfoldable pub ident_line : List ℕ → Line → List ℕ
@@ -68,11 +71,12 @@ refusal_text (refusal.Status error) = codes "status: " ++ keeper_error_text erro
 refusal_text (refusal.Storage side error) = codes "storage " ++ side_letter side ++ codes ": " ++ store_error_text error
 refusal_text (refusal.SameIdent side ident first second) =
     codes "storage " ++ side_letter side ++ codes " has " ++ in_quotes ident ++ codes " twice, in " ++ in_quotes first ++ codes " and " ++ in_quotes second
-refusal_text (refusal.NotBuilt ident) = in_quotes ident ++ codes " is not built"
+refusal_text (refusal.StorageEmpty side) = codes "storage " ++ side_letter side ++ codes " is empty, use --force-delete to go on"
 
 abbrev pub end_text : List ℕ → JobEnd → List ℕ
 end_text job ended.Synced = []
 end_text job (ended.Refused reason) = line_of job (codes "refused: " ++ refusal_text reason)
+end_text job (ended.NotFlushed side error) = line_of job (codes "storage " ++ side_letter side ++ codes " not written: " ++ store_error_text error)
 end_text job (ended.NotCommitted error) = line_of job (codes "status not written: " ++ keeper_error_text error)
 end_text job ended.NoMemory = line_of job (codes "out of memory")
 

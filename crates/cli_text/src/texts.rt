@@ -81,15 +81,30 @@ fn keeper_error_text(alloc: Global, error: &KeeperError) -> Result<String, Alloc
     }
 }
 
+fn not_written_text(alloc: Global, side: Side, error: &StoreError) -> Result<String, AllocError>
+    ensures { IfOk result (λ t. string_bytes t ≡ what_text (What.NotWritten side error.now)) }
+{
+    let letter = side_letter(side);
+    let reason = store_error_text(alloc, error)?;
+    format!(in alloc; "not written to {letter}: {reason}")
+}
+
+fn not_removed_text(alloc: Global, side: Side, error: &StoreError) -> Result<String, AllocError>
+    ensures { IfOk result (λ t. string_bytes t ≡ what_text (What.NotRemoved side error.now)) }
+{
+    let letter = side_letter(side);
+    let reason = store_error_text(alloc, error)?;
+    format!(in alloc; "not removed from {letter}: {reason}")
+}
+
 fn what_text(alloc: Global, what: &What) -> Result<String, AllocError>
     ensures { IfOk result (λ t. string_bytes t ≡ what_text what.now) }
 {
     match what {
-        What::NotWritten { side, error } => {
-            let letter = side_letter(*side);
-            let reason = store_error_text(alloc, error)?;
-            format!(in alloc; "not written to {letter}: {reason}")
-        }
+        What::Conflict => String::from_str(alloc, "conflict, both sides changed"),
+        What::NotWritten { side, error } => not_written_text(alloc, *side, error),
+        What::NotRemoved { side, error } => not_removed_text(alloc, *side, error),
+        What::Skipped => String::from_str(alloc, "removal skipped after a failed write"),
     }
 }
 
@@ -169,11 +184,11 @@ fn refused_status_text(alloc: Global, error: &KeeperError) -> Result<String, All
     format!(in alloc; "status: {reason}")
 }
 
-fn not_built_text(alloc: Global, ident: &str) -> Result<String, AllocError>
-    ensures { IfOk result (λ t. string_bytes t ≡ in_quotes ident.now ++ codes " is not built") }
+fn empty_side_text(alloc: Global, side: Side) -> Result<String, AllocError>
+    ensures { IfOk result (λ t. string_bytes t ≡ refusal_text (Refusal.StorageEmpty side)) }
 {
-    let name = in_quotes(alloc, ident)?;
-    format!(in alloc; "{name} is not built")
+    let letter = side_letter(side);
+    format!(in alloc; "storage {letter} is empty, use --force-delete to go on")
 }
 
 fn refusal_text(alloc: Global, refusal: &Refusal) -> Result<String, AllocError>
@@ -195,7 +210,7 @@ fn refusal_text(alloc: Global, refusal: &Refusal) -> Result<String, AllocError>
             first.as_str(),
             second.as_str(),
         ),
-        Refusal::NotBuilt(ident) => not_built_text(alloc, ident.as_str()),
+        Refusal::StorageEmpty(side) => empty_side_text(alloc, *side),
     }
 }
 
@@ -225,12 +240,28 @@ fn push_not_committed(
     push_line(text, job, whole.as_str())
 }
 
+fn push_not_flushed(
+    alloc: Global,
+    text: &mut String,
+    job: &str,
+    side: Side,
+    error: &StoreError,
+) -> Result<(), AllocError>
+    ensures { OnOk result (string_bytes text.new ≡ string_bytes text.old ++ end_text job.now (JobEnd.NotFlushed side error.now)) }
+{
+    let letter = side_letter(side);
+    let reason = store_error_text(alloc, error)?;
+    let whole = format!(in alloc; "storage {letter} not written: {reason}")?;
+    push_line(text, job, whole.as_str())
+}
+
 fn push_end(alloc: Global, text: &mut String, job: &str, end: &JobEnd) -> Result<(), AllocError>
     ensures { OnOk result (string_bytes text.new ≡ string_bytes text.old ++ end_text job.now end.now) }
 {
     match end {
         JobEnd::Synced => Ok(()),
         JobEnd::Refused(refusal) => push_refusal(alloc, text, job, refusal),
+        JobEnd::NotFlushed { side, error } => push_not_flushed(alloc, text, job, *side, error),
         JobEnd::NotCommitted(error) => push_not_committed(alloc, text, job, error),
         JobEnd::NoMemory => push_line(text, job, "out of memory"),
     }

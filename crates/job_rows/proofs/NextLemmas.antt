@@ -1,7 +1,8 @@
 -- The rows that a run comes to rise, and each is of its step's ident.
-use Rattle.std.proofs.Common.{◌≡◌, inl, inr, ℕ, Bool, true, false, cond, ◌||◌, List, [], ◌∷◌, Option, Some, None, refl, sym, ◌∙◌, ap, subst}
+use Rattle.std.proofs.Common.{◌≡◌, ◌⊎◌, inl, inr, ℕ, Bool, true, false, cond, ◌||◌, List, [], ◌∷◌, length, Option, Some, None, refl, sym, ◌∙◌, ap, subst, arith}
 use Rattle.std.specs.List.{AllByRecursion, cons_option}
 use Rattle.std.specs.Str.{bytes_eq}
+use Rattle.std.proofs.lemmas.Bool.{false≢true}
 use Rattle.std.proofs.lemmas.Slice.Eq.{bytes_eq-Decides}
 use Rattle.status_keeper.specs.declared.row.Row.{Row}
 use Rattle.status_keeper.specs.Idents.{Precedes, IsRising}
@@ -20,7 +21,7 @@ use Rattle.side_reads.specs.declared.holding.Holding.{Holding}
 use Rattle.job_writes.specs.declared.outcome.Outcome.{Outcome}
 use Rattle.job_writes.specs.declared.outcome.Outcome.TheVariants.{Kept, Gone, Written, Left, Conflict, NotWritten, NotRemoved, Skipped}
 use Rattle.job_writes.specs.Writings.{Sources, seen_at, FitsPut, FitsRemoval, IsRemoval, IsRowOf, IsRowFrom, IsNamedBy, IsNamedFor, AllFit, is_failure}
-use Rattle.job_rows.specs.RowsAfter.{outcome_of, row_of_both, row_kept, row_after, rows_after, IsStepAt}
+use Rattle.job_rows.specs.RowsAfter.{outcome_of, row_of_both, row_kept, row_after, rows_after, IsUnchanged, IsStepAt}
 
 seen_named : (ident : List ℕ) (held : Holding) (place : Option ℕ) (s : Seen) → IsPlaceOf ident held.seen.items place → seen_at held place ≡ Some s → s.ident ≡ ident
 seen_named ident held None s of e = cc
@@ -166,3 +167,39 @@ module _ (x : Sources) (rows : List Row) (rules : Rules) where
   row_of_step p f g (q ∷ ps) (y ∷ fs) (z ∷ gs) steps rising (inr at) =
       cons_other (p.ident).now (row_after x rows q (outcome_of q.step y z)) (rows_after x rows ps fs gs) (λ row e same. precedes_differs (q.ident).now (p.ident).now (later_at (q.ident).now p f g ps fs gs rising.0 at) (sym (next_named q y z steps.0 row e) ∙ same))
       ∙ row_of_step p f g ps fs gs steps.1 rising.1 at
+
+  -- ---- which idents have a step
+
+  pub record HasStep (ident : List ℕ) (ps : List Planned) (fs gs : List Outcome) : Type 0 where
+    pub p : Planned
+    pub f : Outcome
+    pub g : Outcome
+    pub at : IsStepAt p f g ps fs gs
+    pub here : (p.ident).now ≡ ident
+
+  pub find_step : (ident : List ℕ) (ps : List Planned) (fs gs : List Outcome) → length fs ≡ length ps → length gs ≡ length ps → HasStep ident ps fs gs ⊎ AllByRecursion (λ z. z ≡ ident → ⊥) (planned_idents ps)
+  find_step ident [] fs gs ef eg = inr tt
+  find_step ident (p ∷ ps) [] gs ef eg = absurd (omega (arith, ef))
+  find_step ident (p ∷ ps) (f ∷ fs) [] ef eg = absurd (omega (arith, eg))
+  find_step ident (p ∷ ps) (f ∷ fs) (g ∷ gs) ef eg = at (bytes_eq (p.ident).now ident) refl (find_step ident ps fs gs (omega (arith, ef)) (omega (arith, eg)))
+    where
+      at : (b : Bool) → bytes_eq (p.ident).now ident ≡ b → HasStep ident ps fs gs ⊎ AllByRecursion (λ z. z ≡ ident → ⊥) (planned_idents ps) → HasStep ident (p ∷ ps) (f ∷ fs) (g ∷ gs) ⊎ AllByRecursion (λ z. z ≡ ident → ⊥) (planned_idents (p ∷ ps))
+      at true e rest = inl (record { p = p; f = f; g = g; at = inl (refl, refl, refl); here = (bytes_eq-Decides (p.ident).now ident).0 e })
+      at false e (inl later) = inl (record { p = later.p; f = later.f; g = later.g; at = inr later.at; here = later.here })
+      at false e (inr none) = inr ((λ same. false≢true (sym e ∙ (bytes_eq-Decides (p.ident).now ident).1 same)), none)
+
+  pub no_row : (ident : List ℕ) (ps : List Planned) (fs gs : List Outcome) → AreSteps ps fs gs → AllByRecursion (λ z. z ≡ ident → ⊥) (planned_idents ps) → row_of ident (rows_after x rows ps fs gs) ≡ None
+  no_row ident [] fs gs steps none = refl
+  no_row ident (p ∷ ps) [] gs steps none = refl
+  no_row ident (p ∷ ps) (f ∷ fs) [] steps none = refl
+  no_row ident (p ∷ ps) (f ∷ fs) (g ∷ gs) steps none =
+      cons_other ident (row_after x rows p (outcome_of p.step f g)) (rows_after x rows ps fs gs) (λ row e same. none.0 (sym (next_named p f g steps.0 row e) ∙ same))
+      ∙ no_row ident ps fs gs steps.1 none.1
+
+pub unchanged_at : (x : Sources) (rows : List Row) (p : Planned) (f g : Outcome) (ps : List Planned) (fs gs : List Outcome) → IsUnchanged x rows ps fs gs → IsStepAt p f g ps fs gs → row_after x rows p (outcome_of p.step f g) ≡ row_of (p.ident).now rows
+unchanged_at x rows p f g [] fs gs same at = absurd at
+unchanged_at x rows p f g (q ∷ ps) [] gs same at = absurd at
+unchanged_at x rows p f g (q ∷ ps) (y ∷ fs) [] same at = absurd at
+unchanged_at x rows p f g (q ∷ ps) (y ∷ fs) (z ∷ gs) same (inl (e, is_f, is_g)) =
+    subst (λ (r : Planned). row_after x rows r (outcome_of r.step f g) ≡ row_of (r.ident).now rows) (sym e) (subst (λ (o : Outcome). row_after x rows q (outcome_of q.step o g) ≡ row_of (q.ident).now rows) (sym is_f) (subst (λ (o : Outcome). row_after x rows q (outcome_of q.step y o) ≡ row_of (q.ident).now rows) (sym is_g) same.0))
+unchanged_at x rows p f g (q ∷ ps) (y ∷ fs) (z ∷ gs) same (inr at) = unchanged_at x rows p f g ps fs gs same.1 at

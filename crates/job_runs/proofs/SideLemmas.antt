@@ -18,7 +18,7 @@ use Rattle.job_runs.specs.Writes.{IsNewOf, IsForOthers, WroteFor, WroteAll, Wrot
 use Rattle.job_runs.specs.Jobs.{IsHonest, IsUntouchedOn, OwnWrite}
 use Rattle.job_runs.proofs.TakenLemmas.{took_saw, over_seen}
 
-no_write_is_other : (ident : List ℕ) (e : StoreEvent) → IsNoWrite e → IsNotWriteOf ident e
+pub no_write_is_other : (ident : List ℕ) (e : StoreEvent) → IsNoWrite e → IsNotWriteOf ident e
 no_write_is_other ident (Edited href old new) h = tt
 no_write_is_other ident Toggled h = tt
 no_write_is_other ident (Wrote href old new sent) h = absurd h

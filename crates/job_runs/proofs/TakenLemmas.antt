@@ -20,7 +20,7 @@ taken_stood c ident version href etag course trues (inr (had, known)) =
 holds : (ident version href etag : List ℕ) (m : SideState) → StandsAs ident version href etag m → HoldsVersion ident version m
 holds ident version href etag m stood = record { href = href; held = stood.held; here = stood.here; item = stood.item; is_item = stood.is_item; same_ident = stood.same_ident; same_version = stood.same_version }
 
-clash_of : (ident : List ℕ) (text : List ℕ) (i j : ItemValue) → item_of text ≡ Some i → item_of text ≡ Some j → (i.ident ≡ ident → ⊥) → j.ident ≡ ident → ⊥
+pub clash_of : (ident : List ℕ) (text : List ℕ) (i j : ItemValue) → item_of text ≡ Some i → item_of text ≡ Some j → (i.ident ≡ ident → ⊥) → j.ident ≡ ident → ⊥
 clash_of ident text i j is_i is_j other same =
     let both : Some i ≡ Some j = sym is_i ∙ is_j in
     let one : i ≡ j = cc in

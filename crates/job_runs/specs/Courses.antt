@@ -1,5 +1,5 @@
 -- One side's course through a run, and what the rows of the status say of it (this project's own).
-use Rattle.std.specs.Prelude.{◌≡◌, ℕ, List, Option, Some}
+use Rattle.std.specs.Prelude.{◌≡◌, ℕ, List, Some}
 use Rattle.std.specs.FinMap as fin
 use Rattle.item_text.specs.Items.{ItemValue, item_of}
 use Rattle.status_keeper.specs.declared.row.Row.{Row}

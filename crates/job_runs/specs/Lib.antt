@@ -3,3 +3,4 @@ pub mod Taken
 pub mod Writes
 pub mod Jobs
 pub mod Named
+pub mod Held

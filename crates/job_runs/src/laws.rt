@@ -3,6 +3,7 @@
 ghost use Rattle.std.specs.Prelude.{◌≡◌, ℕ, List, Option, Some};
 ghost use Rattle.item_text.specs.Items.{ItemValue, item_of};
 ghost use Rattle.status_keeper.specs.declared.row.Row.{Row};
+ghost use Rattle.status_keeper.specs.Rows.{row_of};
 ghost use Rattle.store_model.specs.declared.event.Held.{Held};
 ghost use Rattle.sync_plan.specs.declared.report.Side.TheVariants.{A, B};
 ghost use Rattle.sync_plan.specs.declared.rules.Rules.{Rules};
@@ -12,6 +13,7 @@ ghost use Rattle.job_runs.specs.Taken.{Took, Saw, IsOverTaken, IsOverSeen};
 ghost use Rattle.job_runs.specs.Writes.{IsSource};
 ghost use Rattle.job_runs.specs.Jobs.{JobOf, state_of, IsHonest, IsUntouched, OwnWrite};
 ghost use Rattle.job_runs.specs.Named.{OwnEvent, IsNamedWrite};
+ghost use Rattle.job_runs.specs.Held.{IsByStep};
 
 /// A run is a job step, where its sides tell texts apart by their etags and its rows are true: so runs keep what an
 /// undisputed ident is due, and a clean run brings it there.
@@ -45,4 +47,14 @@ pub fn writes_have_sources()
         IsHonest a → JobOf rules a b before after → OwnEvent a href old new (Some text) → (ident : List ℕ) × IsSource b ident (Some text) }
     ensures on_b { (rules : Rules) (a b : Course) (before after : List Row) (href : List ℕ) (old new : Option Held) (text : List ℕ) →
         IsHonest b → JobOf rules a b before after → OwnEvent b href old new (Some text) → (ident : List ℕ) × IsSource a ident (Some text) }
+{}
+
+/// Each row at exit is the one at entry, or one of a version that both sides held in this run, or none where each side lacked
+/// the ident in this run or the run removed it there, or what a held-back ident's row becomes. A side on which no edit from
+/// outside touches the ident holds or lacks it so at exit. The hrefs and etags of a row that both sides held are vouched by
+/// this run. Behind a removal the side lacked the ident, where the run had found it at no other href.
+pub fn rows_are_by_step()
+    ensures { (rules : Rules) (a b : Course) (before after : List Row) (ident : List ℕ) →
+        IsHonest a → IsHonest b → JobOf rules a b before after →
+        IsByStep rules a b before ident (row_of ident before) (row_of ident after) }
 {}

@@ -4,4 +4,7 @@
 
 mod laws;
 
-pub use laws::{overwrites_are_named, rows_may_be_trusted, run_is_a_job_step, writes_have_sources};
+pub use laws::{
+    overwrites_are_named, rows_are_by_step, rows_may_be_trusted, run_is_a_job_step,
+    writes_have_sources,
+};

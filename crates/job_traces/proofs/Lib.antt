@@ -4,3 +4,6 @@ pub mod RunLemmas
 pub mod MadeLemmas
 pub mod StepRows
 pub mod RowsMade
+pub mod PhaseLemmas
+pub mod JobLemmas
+pub mod PlaceLemmas

@@ -20,10 +20,10 @@ use Rattle.job_runs.specs.Courses.{Course}
 use Rattle.job_runs.specs.Writes.{WroteFor, IsEtagOf}
 use Rattle.job_writes.specs.declared.outcome.Outcome.{Outcome}
 use Rattle.job_writes.specs.declared.outcome.Outcome.TheVariants.{Gone, Written}
-use Rattle.job_writes.specs.Writings.{SideNow, Sources, CopyDid, OverDid, RemovalDid, held_on, place_on, seen_at, PutBy, PutDid, RemovalBy, RemovalDone, InOrder, AllFit, FitsRemoval, is_failure, failed_after, row_beside}
-use Rattle.job_writes.proofs.OrderLemmas.{put_tried, removal_tried}
-use Rattle.job_traces.specs.Traces.{IsWriteFor}
-use Rattle.job_traces.proofs.WriteLemmas.{IsFresh, IsSentFor, HasActed, sent_other, sent_own, sent_flushed}
+use Rattle.job_writes.specs.Writings.{SideNow, Sources, CopyDid, OverDid, RemovalDid, IsSent, held_on, place_on, seen_at, PutBy, PutDid, RemovalBy, RemovalDone, RemovalTried, InOrder, AllTried, AllFit, FitsRemoval, is_failure, failed_after, row_beside}
+use Rattle.job_writes.proofs.OrderLemmas.{put_tried, removal_tried, removals_tried}
+use Rattle.job_traces.specs.Traces.{IsWriteFor, IsFlushed}
+use Rattle.job_traces.proofs.WriteLemmas.{IsFresh, IsSentFor, IsDone, HasActed, sent_other, sent_own, sent_flushed, done_other, done_own, done_flushed}
 use Rattle.job_traces.proofs.StepLemmas.{at_place, place_of, versions_at, Knows, IsPlanned, IsPutStep, IsRemovalStep, not_both, copy_write, over_write, removal_write, copy_says, over_says, removal_says}
 use Rattle.job_traces.proofs.RunLemmas.{Effect, put_effect, removal_effect, saw, says, other_of, fresh_by_other, decide, own_kind, own_step}
 
@@ -45,6 +45,8 @@ module _ (c peer : Course) (side : Side) (x : Sources) (rows : List Row) (rules 
     pub ch : Change
     pub etag : Option (List ℕ)
     pub sent : IsSentFor c peer ident (saw c peer side x rows rules ident) to ch etag s
+    -- where the store doesn't wait it acted at once
+    pub at_once : waits ≡ false → IsDone c peer ident (saw c peer side x rows rules ident) to ch s
     pub from : Seen
     pub source : seen_of ident (held_on (other_side side) x).seen.items ≡ Some from
     pub is_row : row ≡ row_beside side from ch.href etag
@@ -57,7 +59,7 @@ module _ (c peer : Course) (side : Side) (x : Sources) (rows : List Row) (rules 
   put_other : (Kind : Step → Type 0) (row : Row) (p : Planned) (s t : SideNow) → ((p.ident).now ≡ ident → ⊥) → Effect c peer side x rows rules Kind p s t → IsPut row s → IsPut row t
   put_other Kind row p s t differs (inl same) put = subst (λ (y : SideNow). IsPut row y) (sym same) put
   put_other Kind row p s t differs (inr (a, kind)) put =
-      record { to = put.to; is = put.is; ch = put.ch; etag = put.etag; sent = sent_other c peer ident (saw c peer side x rows rules ident) put.to put.ch put.etag a.ch s t (other_of c peer side x rows rules ident p s t differs a) a.sends put.sent; from = put.from; source = put.source; is_row = put.is_row }
+      record { to = put.to; is = put.is; ch = put.ch; etag = put.etag; sent = sent_other c peer ident (saw c peer side x rows rules ident) put.to put.ch put.etag a.ch s t (other_of c peer side x rows rules ident p s t differs a) a.sends put.sent; at_once = λ h. done_other c peer ident (saw c peer side x rows rules ident) put.to put.ch a.ch s t (other_of c peer side x rows rules ident p s t differs a) a.sends (put.at_once h); from = put.from; source = put.source; is_row = put.is_row }
 
   removed_other : (Kind : Step → Type 0) (p : Planned) (s t : SideNow) → ((p.ident).now ≡ ident → ⊥) → Effect c peer side x rows rules Kind p s t → IsRemoved s → IsRemoved t
   removed_other Kind p s t differs (inl same) removed = subst (λ (y : SideNow). IsRemoved y) (sym same) removed
@@ -84,6 +86,7 @@ module _ (c peer : Course) (side : Side) (x : Sources) (rows : List Row) (rules 
         ch = ch;
         etag = did.answer.1;
         sent = sent_own c peer ident (saw c peer side x rows rules ident) to waits ch did.answer.1 s t (write_at p to ch here (copy_write c peer side x rows rules p did.from did.item did.answer.0 knows planned is did.source)) did.answer.3 fresh;
+        at_once = λ h. done_own c peer ident (saw c peer side x rows rules ident) to ch did.answer.1 s t (write_at p to ch here (copy_write c peer side x rows rules p did.from did.item did.answer.0 knows planned is did.source)) (subst (λ (w : Bool). IsSent w ch did.answer.1 s t) h did.answer.3) fresh;
         from = did.from;
         source = source_first p did.from here planned did.source.seen;
         is_row = did.answer.2;
@@ -99,6 +102,7 @@ module _ (c peer : Course) (side : Side) (x : Sources) (rows : List Row) (rules 
         ch = ch;
         etag = did.answer.0;
         sent = sent_own c peer ident (saw c peer side x rows rules ident) to waits ch did.answer.0 s t (write_at p to ch here (over_write c peer side x rows rules p did.over did.from did.item knows planned did.stands did.source)) did.answer.2 fresh;
+        at_once = λ h. done_own c peer ident (saw c peer side x rows rules ident) to ch did.answer.0 s t (write_at p to ch here (over_write c peer side x rows rules p did.over did.from did.item knows planned did.stands did.source)) (subst (λ (w : Bool). IsSent w ch did.answer.0 s t) h did.answer.2) fresh;
         from = did.from;
         source = source_first p did.from here planned did.source.seen;
         is_row = did.answer.1;
@@ -158,11 +162,9 @@ module _ (c peer : Course) (side : Side) (x : Sources) (rows : List Row) (rules 
     -- ---- removals
 
     -- no removal is of an ident that was put
-    keep_put : (row : Row) (failed : Bool) (ps : List Planned) (os : List Outcome) (s t : SideNow) → AllByRecursion (IsPlanned c peer side x rows rules) ps → own_kind c peer side x rows rules ident IsPutStep → InOrder (RemovalDone waits side x) failed ps os s t → IsPut row s → IsPut row t
-    keep_put row failed [] [] s t planned kind done put = subst (λ (y : SideNow). IsPut row y) (sym done) put
-    keep_put row failed [] (o ∷ os) s t planned kind done put = absurd done
-    keep_put row failed (p ∷ ps) [] s t planned kind done put = absurd done
-    keep_put row failed (p ∷ ps) (o ∷ os) s t planned kind (m, did, rest) put = keep_put row (failed || is_failure o) ps os m t planned.1 kind rest (one (decide c peer side x rows rules ident (p.ident).now) (removal_effect c peer side x rows rules p s m knows planned.0 (removal_tried waits side x failed p s m o did)))
+    keep_put : (row : Row) (failed : Bool) (ps : List Planned) (s t : SideNow) → AllByRecursion (IsPlanned c peer side x rows rules) ps → own_kind c peer side x rows rules ident IsPutStep → AllTried (RemovalTried side x failed) ps s t → IsPut row s → IsPut row t
+    keep_put row failed [] s t planned kind done put = subst (λ (y : SideNow). IsPut row y) (sym done) put
+    keep_put row failed (p ∷ ps) s t planned kind (m, tried, rest) put = keep_put row failed ps m t planned.1 kind rest (one (decide c peer side x rows rules ident (p.ident).now) (removal_effect c peer side x rows rules failed p s m knows planned.0 tried))
       where
         one : ((p.ident).now ≡ ident) ⊎ ((p.ident).now ≡ ident → ⊥) → Effect c peer side x rows rules IsRemovalStep p s m → IsPut row m
         one (inr differs) effect = put_other IsRemovalStep row p s m differs effect put
@@ -183,7 +185,7 @@ module _ (c peer : Course) (side : Side) (x : Sources) (rows : List Row) (rules 
 
     removals_others : (failed : Bool) (ps : List Planned) (os : List Outcome) (s t : SideNow) → AllByRecursion (λ (z : List ℕ). Precedes ident z) (planned_idents ps) → AllByRecursion (IsPlanned c peer side x rows rules) ps → InOrder (RemovalDone waits side x) failed ps os s t → IsRemoved s → IsRemoved t
     removals_others failed [] [] s t later planned done removed = subst (λ (y : SideNow). IsRemoved y) (sym done) removed
-    removals_others failed (p ∷ ps) (o ∷ os) s t later planned (m, did, rest) removed = removals_others (failed || is_failure o) ps os m t later.1 planned.1 rest (removed_other IsRemovalStep p s m (λ same. precedes_differs ident (p.ident).now later.0 (sym same)) (removal_effect c peer side x rows rules p s m knows planned.0 (removal_tried waits side x failed p s m o did)) removed)
+    removals_others failed (p ∷ ps) (o ∷ os) s t later planned (m, did, rest) removed = removals_others (failed || is_failure o) ps os m t later.1 planned.1 rest (removed_other IsRemovalStep p s m (λ same. precedes_differs ident (p.ident).now later.0 (sym same)) (removal_effect c peer side x rows rules failed p s m knows planned.0 (removal_tried waits side x failed p s m o did)) removed)
     removals_others failed [] (o ∷ os) s t later planned done removed = absurd done
     removals_others failed (p ∷ ps) [] s t later planned done removed = absurd done
 
@@ -205,7 +207,7 @@ module _ (c peer : Course) (side : Side) (x : Sources) (rows : List Row) (rules 
         let later : AllByRecursion (λ (z : List ℕ). Precedes ident z) (planned_idents ps) = subst (λ (i : List ℕ). AllByRecursion (λ (z : List ℕ). Precedes i z) (planned_idents ps)) (ap (λ (r : Planned). (r.ident).now) (sym same) ∙ here) rising.0 in
         removals_others (failed || is_failure o) ps os m t later planned.1 rest (own_removal failed p s m here is_planned kind fit own fresh)
     removals_at p failed (q ∷ ps) (o ∷ os) s t here kind rising planned fits (m, did, rest) (inr at) fresh =
-        removals_at p (failed || is_failure o) ps os m t here kind rising.1 planned.1 fits.1 rest at (fresh_by_other c peer side x rows rules ident IsRemovalStep q s m (before_at q p Gone ps os here rising.0 at) (removal_effect c peer side x rows rules q s m knows planned.0 (removal_tried waits side x failed q s m o did)) fresh)
+        removals_at p (failed || is_failure o) ps os m t here kind rising.1 planned.1 fits.1 rest at (fresh_by_other c peer side x rows rules ident IsRemovalStep q s m (before_at q p Gone ps os here rising.0 at) (removal_effect c peer side x rows rules failed q s m knows planned.0 (removal_tried waits side x failed q s m o did)) fresh)
 
     -- ---- when all is flushed
 
@@ -226,9 +228,21 @@ module _ (c peer : Course) (side : Side) (x : Sources) (rows : List Row) (rules 
     pub put_wrote : (row : Row) (ps : List Planned) (fs gs : List Outcome) (s m t : SideNow) (p : Planned) → (p.ident).now ≡ ident → (p.step ≡ step.CopyTo side) ⊎ (p.step ≡ step.WriteOver side) → own_kind c peer side x rows rules ident IsPutStep → IsRising (planned_idents ps) → AllByRecursion (IsPlanned c peer side x rows rules) ps → InOrder (λ failed. PutDid waits side x) false ps fs s m → InOrder (RemovalDone waits side x) (failed_after false fs) ps gs m t → IsAt p (Written row) ps fs → IsFresh c peer ident s → Flushes t.waiting t.state c.exit → IsWroteRow row
     unfolding wrote_by
     put_wrote row ps fs gs s m t p here kind put_kind rising planned first second at fresh flush =
-        let put = keep_put row (failed_after false fs) ps gs m t planned put_kind second (puts_at p row false ps fs s m here kind rising planned first at fresh) in
+        let put = keep_put row (failed_after false fs) ps m t planned put_kind (removals_tried waits side x (failed_after false fs) ps gs m t second) (puts_at p row false ps fs s m here kind rising planned first at fresh) in
         let acted = sent_flushed c peer ident (saw c peer side x rows rules ident) put.to put.ch put.etag t c.exit put.sent flush in
         record { to = put.to; is = put.is; wrote = wrote_by put.to put.ch acted.0; from = put.from; source = put.source; etag = put.etag; is_row = put.is_row; told = acted.1 }
+
+    -- and where the side that waits was flushed, or doesn't wait
+    pub put_acted : (row : Row) (ps : List Planned) (fs : List Outcome) (φ : Bool) (s m t : SideNow) (p : Planned) → (p.ident).now ≡ ident → (p.step ≡ step.CopyTo side) ⊎ (p.step ≡ step.WriteOver side) → own_kind c peer side x rows rules ident IsPutStep → IsRising (planned_idents ps) → AllByRecursion (IsPlanned c peer side x rows rules) ps → InOrder (λ failed. PutDid waits side x) false ps fs s m → AllTried (RemovalTried side x φ) ps m t → IsAt p (Written row) ps fs → IsFresh c peer ident s → IsFlushed t c.exit → (waits ≡ false) ⊎ Flushes t.waiting t.state c.exit → (to : Option (List ℕ)) × (says c peer side x rows rules ident ≡ Some to) × WroteFor c peer ident (saw c peer side x rows rules ident) to
+    put_acted row ps fs φ s m t p here kind put_kind rising planned first second at fresh flush ends =
+        let put = keep_put row φ ps m t planned put_kind second (puts_at p row false ps fs s m here kind rising planned first at fresh) in (
+          put.to,
+          put.is,
+          wrote_by put.to put.ch (elim ends [
+            | inl now ↦ done_flushed c peer ident (saw c peer side x rows rules ident) put.to put.ch t c.exit (put.at_once now) flush
+            | inr all ↦ (sent_flushed c peer ident (saw c peer side x rows rules ident) put.to put.ch put.etag t c.exit put.sent all).0
+          ]),
+        )
 
     pub removal_wrote : (ps : List Planned) (fs gs : List Outcome) (s m t : SideNow) (p : Planned) → (p.ident).now ≡ ident → p.step ≡ step.RemoveFrom side → own_kind c peer side x rows rules ident IsRemovalStep → IsRising (planned_idents ps) → AllByRecursion (IsPlanned c peer side x rows rules) ps → AllFit (λ φ q. FitsRemoval φ q.step) (failed_after false fs) ps gs → InOrder (λ failed. PutDid waits side x) false ps fs s m → InOrder (RemovalDone waits side x) (failed_after false fs) ps gs m t → IsAt p Gone ps gs → IsFresh c peer ident s → Flushes t.waiting t.state c.exit → WroteFor c peer ident (saw c peer side x rows rules ident) None
     removal_wrote ps fs gs s m t p here kind removal_kind rising planned fits first second at fresh flush =

@@ -25,6 +25,7 @@ use Rattle.job_writes.specs.declared.outcome.Outcome.TheVariants.{Kept, Gone, Wr
 use Rattle.job_writes.specs.declared.phases.Outcomes.{Outcomes}
 use Rattle.job_writes.specs.Writings.{SideNow, Sources, seen_at, WritesDid, IsWhole, AllFit, FitsPut, FitsRemoval, IsPut, IsRemoval, failed_after, is_failure}
 use Rattle.job_rows.specs.RowsAfter.{outcome_of, row_of_both, row_kept, row_after, IsStepAt}
+use Rattle.job_traces.specs.Traces.{IsUndone}
 use Rattle.job_traces.proofs.WriteLemmas.{IsFresh}
 use Rattle.job_traces.proofs.StepLemmas.{Knows, IsPutStep, IsRemovalStep}
 use Rattle.job_traces.proofs.MadeLemmas.{IsAt, put_wrote, removal_wrote}
@@ -32,27 +33,27 @@ use Rattle.job_traces.proofs.StepRows.{v, says_on, Made, IsPlaceTaken, made_stil
 
 -- ---- a step and its outcomes
 
-first_at : (p : Planned) (f g : Outcome) (ps : List Planned) (fs gs : List Outcome) → IsStepAt p f g ps fs gs → IsAt p f ps fs
+pub first_at : (p : Planned) (f g : Outcome) (ps : List Planned) (fs gs : List Outcome) → IsStepAt p f g ps fs gs → IsAt p f ps fs
 first_at p f g [] fs gs at = absurd at
 first_at p f g (q ∷ ps) [] gs at = absurd at
 first_at p f g (q ∷ ps) (y ∷ fs) [] at = absurd at
 first_at p f g (q ∷ ps) (y ∷ fs) (z ∷ gs) (inl (e, is_f, is_g)) = inl (e, is_f)
 first_at p f g (q ∷ ps) (y ∷ fs) (z ∷ gs) (inr at) = inr (first_at p f g ps fs gs at)
 
-second_at : (p : Planned) (f g : Outcome) (ps : List Planned) (fs gs : List Outcome) → IsStepAt p f g ps fs gs → IsAt p g ps gs
+pub second_at : (p : Planned) (f g : Outcome) (ps : List Planned) (fs gs : List Outcome) → IsStepAt p f g ps fs gs → IsAt p g ps gs
 second_at p f g [] fs gs at = absurd at
 second_at p f g (q ∷ ps) [] gs at = absurd at
 second_at p f g (q ∷ ps) (y ∷ fs) [] at = absurd at
 second_at p f g (q ∷ ps) (y ∷ fs) (z ∷ gs) (inl (e, is_f, is_g)) = inl (e, is_g)
 second_at p f g (q ∷ ps) (y ∷ fs) (z ∷ gs) (inr at) = inr (second_at p f g ps fs gs at)
 
-fits_at : (Fits : Bool → Planned → Outcome → Type 0) (failed : Bool) (p : Planned) (o : Outcome) (ps : List Planned) (os : List Outcome) → AllFit Fits failed ps os → IsAt p o ps os → (φ : Bool) × Fits φ p o
+pub fits_at : (Fits : Bool → Planned → Outcome → Type 0) (failed : Bool) (p : Planned) (o : Outcome) (ps : List Planned) (os : List Outcome) → AllFit Fits failed ps os → IsAt p o ps os → (φ : Bool) × Fits φ p o
 fits_at Fits failed p o [] os fits at = absurd at
 fits_at Fits failed p o (q ∷ ps) [] fits at = absurd at
 fits_at Fits failed p o (q ∷ ps) (y ∷ os) fits (inl (e, is)) = (failed, subst (λ (r : Planned). Fits failed r o) (sym e) (subst (λ (z : Outcome). Fits failed q z) (sym is) fits.0))
 fits_at Fits failed p o (q ∷ ps) (y ∷ os) fits (inr at) = fits_at Fits (failed || is_failure y) p o ps os fits.1 at
 
-planned_at : (P : Planned → Type 0) (p : Planned) (o : Outcome) (ps : List Planned) (os : List Outcome) → AllByRecursion P ps → IsAt p o ps os → P p
+pub planned_at : (P : Planned → Type 0) (p : Planned) (o : Outcome) (ps : List Planned) (os : List Outcome) → AllByRecursion P ps → IsAt p o ps os → P p
 planned_at P p o [] os all at = absurd at
 planned_at P p o (q ∷ ps) [] all at = absurd at
 planned_at P p o (q ∷ ps) (y ∷ os) all (inl (e, is)) = subst P (sym e) all.0
@@ -90,8 +91,9 @@ module _ (a b : Course) (x : Sources) (rows : List Row) (rules : Rules) (waits_a
     abbrev pub ident : List ℕ
     ident = (p.ident).now
 
+    -- the row is the one before, and the step was not done; or it is made
     abbrev pub RowEnds : Step → Type 0
-    RowEnds st = (row_after x rows p (outcome_of st f g) ≡ row_of ident rows) ⊎ Made a b x rows rules ident (row_after x rows p (outcome_of st f g))
+    RowEnds st = (IsUndone (outcome_of st f g) × (row_after x rows p (outcome_of st f g) ≡ row_of ident rows)) ⊎ Made a b x rows rules ident (row_after x rows p (outcome_of st f g))
 
     is_planned : IsPlannedFor x.a.seen.items x.b.seen.items rows rules p
     is_planned = planned_at (IsPlannedFor x.a.seen.items x.b.seen.items rows rules) p f plan os.put.items ran.planned (first_at p f g plan os.put.items os.removed.items at)
@@ -136,8 +138,8 @@ module _ (a b : Course) (x : Sources) (rows : List Row) (rules : Rules) (waits_a
         (made_still a b x rows rules ident None (says step.Forget A is) (says step.Forget B is) (ran.wrote_a ident) (ran.wrote_b ident) fits.1 fits.2 (λ r e. no_row None refl r e)))
 
     -- the row stays
-    stays : (st : Step) (o : Outcome) → outcome_of st f g ≡ o → row_after x rows p o ≡ row_of ident rows → RowEnds st
-    stays st o is same = inl (ap (row_after x rows p) is ∙ same)
+    stays : (st : Step) (o : Outcome) → IsUndone o → outcome_of st f g ≡ o → row_after x rows p o ≡ row_of ident rows → RowEnds st
+    stays st o undone is same = inl (subst IsUndone (sym is) undone, ap (row_after x rows p) is ∙ same)
 
     put_on_a : (row : Row) (st : Step) → p.step ≡ st → (p.step ≡ step.CopyTo A) ⊎ (p.step ≡ step.WriteOver A) → IsPutStep st → written st None A (v a b x rows rules ident) ≡ Some (v a b x rows rules ident).b → written st None B (v a b x rows rules ident) ≡ None → f ≡ Written row → Made a b x rows rules ident (Some row)
     put_on_a row st is kind put is_a none_b is_f =
@@ -154,7 +156,7 @@ module _ (a b : Course) (x : Sources) (rows : List Row) (rules : Rules) (waits_a
     -- a step that writes, by its outcome
     by_put : (st : Step) (side : Side) → outcome_of st f g ≡ f → (o : Outcome) → f ≡ o → IsPut side o → ((row : Row) → f ≡ Written row → Made a b x rows rules ident (Some row)) → RowEnds st
     by_put st side is (Written row) is_f fits made = inr (subst (λ (q : Option Row). Made a b x rows rules ident q) (sym (ap (row_after x rows p) (is ∙ is_f))) (made row is_f))
-    by_put st side is (NotWritten to error) is_f fits made = stays st (NotWritten to error) (is ∙ is_f) refl
+    by_put st side is (NotWritten to error) is_f fits made = stays st (NotWritten to error) tt (is ∙ is_f) refl
     by_put st side is Kept is_f fits made = absurd fits
     by_put st side is Gone is_f fits made = absurd fits
     by_put st side is Left is_f fits made = absurd fits
@@ -176,7 +178,7 @@ module _ (a b : Course) (x : Sources) (rows : List Row) (rules : Rules) (waits_a
 
     by_removal : (side : Side) (o : Outcome) → g ≡ o → IsRemoval side o → (g ≡ Gone → Made a b x rows rules ident None) → RowEnds (step.RemoveFrom side)
     by_removal side Gone is_g fits made = inr (subst (λ (q : Option Row). Made a b x rows rules ident q) (sym (ap (row_after x rows p) is_g)) (made is_g))
-    by_removal side (NotRemoved from error) is_g fits made = stays (step.RemoveFrom side) (NotRemoved from error) is_g refl
+    by_removal side (NotRemoved from error) is_g fits made = stays (step.RemoveFrom side) (NotRemoved from error) tt is_g refl
     by_removal side Kept is_g fits made = absurd fits
     by_removal side (Written row) is_g fits made = absurd fits
     by_removal side Left is_g fits made = absurd fits
@@ -185,15 +187,15 @@ module _ (a b : Course) (x : Sources) (rows : List Row) (rules : Rules) (waits_a
     by_removal side Skipped is_g fits made = absurd fits
 
     by_flag : (side : Side) (φ : Bool) → FitsRemoval φ (step.RemoveFrom side) g → (g ≡ Gone → Made a b x rows rules ident None) → RowEnds (step.RemoveFrom side)
-    by_flag side true fits made = stays (step.RemoveFrom side) Skipped fits refl
+    by_flag side true fits made = stays (step.RemoveFrom side) Skipped tt fits refl
     by_flag side false fits made = by_removal side g refl fits made
 
     by_step : (st : Step) → p.step ≡ st → FitsPut st f → (φ : Bool) → FitsRemoval φ st g → RowEnds st
     by_step step.Keep is fits φ removal = kept is fits
     by_step step.Forget is fits φ removal = forgotten is fits
-    by_step step.Conflict is fits φ removal = stays step.Conflict Conflict fits refl
-    by_step step.HandOver is fits φ removal = stays step.HandOver Left fits refl
-    by_step (step.Held to) is fits φ removal = stays (step.Held to) Left fits refl
+    by_step step.Conflict is fits φ removal = stays step.Conflict Conflict tt fits refl
+    by_step step.HandOver is fits φ removal = stays step.HandOver Left tt fits refl
+    by_step (step.Held to) is fits φ removal = stays (step.Held to) Left tt fits refl
     by_step (step.CopyTo A) is fits φ removal = by_put (step.CopyTo A) A refl f refl fits (λ row e. put_on_a row (step.CopyTo A) is (inl is) tt refl refl e)
     by_step (step.CopyTo B) is fits φ removal = by_put (step.CopyTo B) B refl f refl fits (λ row e. put_on_b row (step.CopyTo B) is (inl is) tt refl refl e)
     by_step (step.WriteOver A) is fits φ removal = by_put (step.WriteOver A) A refl f refl fits (λ row e. put_on_a row (step.WriteOver A) is (inr is) tt refl refl e)

@@ -18,9 +18,8 @@ use Rattle.sync_plan.specs.JobSteps.{on_side, written}
 use Rattle.sync_plan.proofs.Rising.{precedes_differs}
 use Rattle.job_runs.specs.Courses.{Course}
 use Rattle.job_runs.specs.Writes.{WroteFor, WroteAll, WroteSome}
-use Rattle.job_writes.specs.declared.phases.Outcomes.{Outcomes}
-use Rattle.job_writes.proofs.OrderLemmas.{puts_tried, removals_tried}
-use Rattle.job_writes.specs.Writings.{WritesDid, failed_after, SideNow, Sources, PutTried, PutSentBy, RemovalTried, RemovalSentBy, AllTried}
+use Rattle.job_writes.proofs.OrderLemmas.{puts_tried, removals_refl}
+use Rattle.job_writes.specs.Writings.{WritesTried, failed_after, SideNow, Sources, PutTried, PutSentBy, RemovalTried, RemovalSentBy, AllTried}
 use Rattle.job_traces.specs.Traces.{IsWriteFor, IsFlushed}
 use Rattle.job_traces.proofs.WriteLemmas.{IsOther, IsFresh, IsUnderWay, Tracks, IsWritten, fresh_other, fresh_flushed, sends_other, sends_own, flushed}
 use Rattle.job_traces.proofs.StepLemmas.{versions_at, Knows, IsPlanned, Affects, IsPutStep, IsRemovalStep, not_both, copy_affects, over_affects, removal_affects}
@@ -63,17 +62,17 @@ module _ (c peer : Course) (side : Side) (x : Sources) (rows : List Row) (rules 
   put_effect p s t knows planned (inl same) = inl same
   put_effect p s t knows planned (inr sent) = inr (put_kind side p.step c peer x rows rules p s t knows planned refl sent)
 
-  pub removal_effect : (p : Planned) (s t : SideNow) → Knows c peer side x rows rules → IsPlanned c peer side x rows rules p → RemovalTried side x p s t → Effect IsRemovalStep p s t
-  removal_effect p s t knows planned (inl same) = inl same
-  removal_effect p s t knows planned (inr sent) = inr (removal_kind side p.step c peer x rows rules p s t knows planned refl sent)
+  pub removal_effect : (failed : Bool) (p : Planned) (s t : SideNow) → Knows c peer side x rows rules → IsPlanned c peer side x rows rules p → RemovalTried side x failed p s t → Effect IsRemovalStep p s t
+  removal_effect failed p s t knows planned (inl same) = inl same
+  removal_effect failed p s t knows planned (inr (none, sent)) = inr (removal_kind side p.step c peer x rows rules p s t knows planned refl sent)
 
   pub put_effects : (ps : List Planned) (s t : SideNow) → Knows c peer side x rows rules → AllByRecursion (IsPlanned c peer side x rows rules) ps → AllTried (PutTried side x) ps s t → AllTried (Effect IsPutStep) ps s t
   put_effects [] s t knows planned done = done
   put_effects (p ∷ ps) s t knows planned (m, tried, rest) = (m, put_effect p s m knows planned.0 tried, put_effects ps m t knows planned.1 rest)
 
-  pub removal_effects : (ps : List Planned) (s t : SideNow) → Knows c peer side x rows rules → AllByRecursion (IsPlanned c peer side x rows rules) ps → AllTried (RemovalTried side x) ps s t → AllTried (Effect IsRemovalStep) ps s t
-  removal_effects [] s t knows planned done = done
-  removal_effects (p ∷ ps) s t knows planned (m, tried, rest) = (m, removal_effect p s m knows planned.0 tried, removal_effects ps m t knows planned.1 rest)
+  pub removal_effects : (failed : Bool) (ps : List Planned) (s t : SideNow) → Knows c peer side x rows rules → AllByRecursion (IsPlanned c peer side x rows rules) ps → AllTried (RemovalTried side x failed) ps s t → AllTried (Effect IsRemovalStep) ps s t
+  removal_effects failed [] s t knows planned done = done
+  removal_effects failed (p ∷ ps) s t knows planned (m, tried, rest) = (m, removal_effect failed p s m knows planned.0 tried, removal_effects failed ps m t knows planned.1 rest)
 
   -- ---- one ident
 
@@ -199,9 +198,10 @@ module _ (c peer : Course) (side : Side) (x : Sources) (rows : List Row) (rules 
       | inr wrote ↦ inr (subst (λ (o : Option (Option (List ℕ))). WroteAll c peer ident saw o) (sym said.is) (wrote_for said.to wrote))
     ]
 
-    pub wrote : (ps : List Planned) (s m t : SideNow) → Knows c peer side x rows rules → IsRising (planned_idents ps) → AllByRecursion (IsPlanned c peer side x rows rules) ps → AllTried (PutTried side x) ps s m → AllTried (RemovalTried side x) ps m t → IsFresh c peer ident s → IsFlushed t c.exit → WroteSome c peer ident saw says
-    wrote ps s m t knows rising planned first second fresh flush = wrote_some t (both ps s m t rising planned (put_effects ps s m knows planned first) (removal_effects ps m t knows planned second) fresh) flush
+    wrote : (failed : Bool) (ps : List Planned) (s m t : SideNow) → Knows c peer side x rows rules → IsRising (planned_idents ps) → AllByRecursion (IsPlanned c peer side x rows rules) ps → AllTried (PutTried side x) ps s m → AllTried (RemovalTried side x failed) ps m t → IsFresh c peer ident s → IsFlushed t c.exit → WroteSome c peer ident saw says
+    wrote failed ps s m t knows rising planned first second fresh flush = wrote_some t (both ps s m t rising planned (put_effects ps s m knows planned first) (removal_effects failed ps m t knows planned second) fresh) flush
 
-    -- and where all steps have their outcomes
-    pub wrote_done : (waits : Bool) (ps : List Planned) (os : Outcomes) (s t : SideNow) → Knows c peer side x rows rules → IsRising (planned_idents ps) → AllByRecursion (IsPlanned c peer side x rows rules) ps → WritesDid waits side x ps s t os → IsFresh c peer ident s → IsFlushed t c.exit → WroteSome c peer ident saw says
-    wrote_done waits ps os s t knows rising planned did fresh flush = wrote ps s did.between t knows rising planned (puts_tried waits side x ps os.put.items s did.between did.puts) (removals_tried waits side x (failed_after false os.put.items) ps os.removed.items did.between t did.removals) fresh flush
+    -- wherever the run ended
+    pub wrote_tried : (waits : Bool) (ps : List Planned) (s t : SideNow) → Knows c peer side x rows rules → IsRising (planned_idents ps) → AllByRecursion (IsPlanned c peer side x rows rules) ps → WritesTried waits side x ps s t → IsFresh c peer ident s → IsFlushed t c.exit → WroteSome c peer ident saw says
+    wrote_tried waits ps s t knows rising planned (inl puts) fresh flush = wrote false ps s t t knows rising planned puts (removals_refl side x false ps t) fresh flush
+    wrote_tried waits ps s t knows rising planned (inr tried) fresh flush = wrote (failed_after false tried.put) ps s tried.between t knows rising planned (puts_tried waits side x ps tried.put s tried.between tried.puts) tried.removals fresh flush

@@ -26,7 +26,7 @@ use Rattle.job_traces.specs.Traces.{Expects, IsSentAs, IsWriteFor}
 
 -- ---- places
 
-within_slice : {X : Type 0} (xs : List X) (i : ℕ) (x : X) → slice_get xs i ≡ Some x → Within x xs
+pub within_slice : {X : Type 0} (xs : List X) (i : ℕ) (x : X) → slice_get xs i ≡ Some x → Within x xs
 within_slice [] i x e = cc
 within_slice (y ∷ ys) zero x e = inl (cc)
 within_slice (y ∷ ys) (suc i) x e = inr (within_slice ys i x e)

@@ -253,6 +253,22 @@ module _ (c peer : Course) (ident : List ℕ) where
     sent_own false ch etag s t write sent fresh = inl (record { acted = acted_by ch s.state t.state write fresh.run sent.0; waits = subst (λ (w : List Change). AllByRecursion IsOther w) (sym sent.2) fresh.waits }, etag_of etag (sent.0).new sent.1)
     sent_own true ch etag s t write sent fresh = inr (record { run = Evolves-trans fresh.run (Evolves-weaker outside_is_for_others sent.0); write = write; first = s.waiting; rest = []; waits = sent.2; others_first = fresh.waits; others_rest = tt }, sent.1)
 
+    -- a change that acted as it was sent stays done, whatever comes later
+    pub done_other : (ch other : Change) (s t : SideNow) → IsOther other → Sends other s t → IsDone ch s → IsDone ch t
+    unfolding acted_more
+    done_other ch other s t is (inl (inl outside, same)) done = record { acted = acted_more ch s.state t.state done.acted (Evolves-weaker outside_is_for_others outside); waits = subst (λ (w : List Change). AllByRecursion IsOther w) (sym same) done.waits }
+    done_other ch other s t is (inl (inr acts, same)) done = record { acted = acted_more ch s.state t.state done.acted (acts_for_others other s.state t.state is acts); waits = subst (λ (w : List Change). AllByRecursion IsOther w) (sym same) done.waits }
+    done_other ch other s t is (inr (outside, same)) done = record { acted = acted_more ch s.state t.state done.acted (Evolves-weaker outside_is_for_others outside); waits = subst (λ (w : List Change). AllByRecursion IsOther w) (sym same) (all_push s.waiting other done.waits is) }
+
+    pub done_own : (ch : Change) (etag : Option (List ℕ)) (s t : SideNow) → IsWriteFor c peer ident saw to ch → IsSent false ch etag s t → IsFresh s → IsDone ch t
+    unfolding acted_by
+    done_own ch etag s t write sent fresh = record { acted = acted_by ch s.state t.state write fresh.run sent.0; waits = subst (λ (w : List Change). AllByRecursion IsOther w) (sym sent.2) fresh.waits }
+
+    pub done_flushed : (ch : Change) (s : SideNow) (exit : SideState) → IsDone ch s → IsFlushed s exit → HasActed ch exit
+    unfolding acted_more
+    done_flushed ch s exit done (inl outside) = acted_more ch s.state exit done.acted (Evolves-weaker outside_is_for_others outside)
+    done_flushed ch s exit done (inr flush) = acted_more ch s.state exit done.acted (Evolves-trans (Evolves-weaker outside_is_for_others flush.before) (Evolves-trans (all_act s.waiting flush.first flush.last done.waits flush.all) (Evolves-weaker outside_is_for_others flush.after)))
+
     -- when all that waits has acted, it has
     pub sent_flushed : (ch : Change) (etag : Option (List ℕ)) (s : SideNow) (exit : SideState) → IsSentFor ch etag s → Flushes s.waiting s.state exit → (acted : HasActed ch exit) × IsEtagOf etag acted.new
     unfolding acted_more

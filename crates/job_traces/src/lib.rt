@@ -3,4 +3,4 @@
 
 mod laws;
 
-pub use laws::{rows_are_made, writes_are_of_the_step};
+pub use laws::{moved_is_by_edit, runs_are_jobs};

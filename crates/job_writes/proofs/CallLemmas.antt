@@ -33,9 +33,9 @@ new_sends item s t error (inr h) = (h.0, unsent_sends (new_at h.0 item.text) err
 module _ (waits : Bool) (may : List ℕ → Type 0) (side : Side) (from : Seen) (item : ItemValue) (s t : SideNow) where
   new_fails : (error : StoreError) → PutNewAnswer waits may item s.state s.waiting t.state t.waiting (Err error) → NewFails item.text error s t
   new_fails Moved h = inr (h.0, h.2)
-  new_fails Fault (inl h) = inl (h, λ is. cc)
+  new_fails Fault (inl h) = inl (h, tt)
   new_fails Fault (inr h) = inr (h.0, h.2)
-  new_fails NoMemory (inl h) = inl (h, λ is. cc)
+  new_fails NoMemory (inl h) = inl (h, tt)
   new_fails NoMemory (inr h) = inr (h.0, h.2)
   new_fails TooLong h = absurd h
   new_fails TooMany h = absurd h

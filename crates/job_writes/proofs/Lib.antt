@@ -1,3 +1,5 @@
 pub mod CallLemmas
 pub mod CauseLemmas
 pub mod OrderLemmas
+pub mod FaultLemmas
+pub mod KnownLemmas

@@ -10,8 +10,9 @@ use Rattle.sync_plan.specs.declared.dues.Step.TheVariants as step
 use Rattle.sync_plan.specs.declared.seen.Planned.{Planned}
 use Rattle.side_reads.specs.declared.holding.Holding.{Holding}
 use Rattle.job_writes.specs.declared.outcome.Outcome.{Outcome}
+use Rattle.job_writes.specs.declared.phases.Outcomes.{Outcomes}
 use Rattle.job_writes.specs.declared.outcome.Outcome.TheVariants.{Kept, Gone, Written, Left, Conflict, NotWritten, NotRemoved, Skipped}
-use Rattle.job_writes.specs.Writings.{SideNow, Sources, IsSent, Sends, CopyDid, CopySent, OverDid, OverSent, RemovalDid, RemovalSent, PutBy, PutSentBy, PutDid, PutTried, RemovalBy, RemovalSentBy, RemovalDone, RemovalTried, InOrder, AllTried, AllFit, is_failure, failed_after}
+use Rattle.job_writes.specs.Writings.{SideNow, Sources, IsSent, Sends, CopyDid, CopySent, OverDid, OverSent, RemovalDid, RemovalSent, PutBy, PutSentBy, PutDid, PutTried, RemovalBy, RemovalSentBy, RemovalDone, RemovalTried, InOrder, AllTried, AllFit, WritesDid, WritesTried, is_failure, failed_after}
 use Rattle.job_writes.proofs.CallLemmas.{unsent_sends, new_sends}
 
 -- ---- what a step did it tried
@@ -74,10 +75,10 @@ put_by_tried (step.Held to) waits side x p s t o did = inl did
 pub put_tried : (waits : Bool) (side : Side) (x : Sources) (p : Planned) (s t : SideNow) (o : Outcome) → PutDid waits side x p s t o → PutTried side x p s t
 put_tried waits side x p s t o did = put_by_tried p.step waits side x p s t o did
 
-removal_by_tried : (st : Step) (failed waits : Bool) (side : Side) (x : Sources) (p : Planned) (s t : SideNow) (o : Outcome) → RemovalBy st failed waits side x p s t o → (t ≡ s) ⊎ RemovalSentBy st side x p s t
+removal_by_tried : (st : Step) (failed waits : Bool) (side : Side) (x : Sources) (p : Planned) (s t : SideNow) (o : Outcome) → RemovalBy st failed waits side x p s t o → (t ≡ s) ⊎ ((failed ≡ false) × RemovalSentBy st side x p s t)
 removal_by_tried (step.RemoveFrom from) true waits side x p s t o did = inl did
-removal_by_tried (step.RemoveFrom A) false waits A x p s t o did = inr (removal_sent waits A x.a p.a s t o did)
-removal_by_tried (step.RemoveFrom B) false waits B x p s t o did = inr (removal_sent waits B x.b p.b s t o did)
+removal_by_tried (step.RemoveFrom A) false waits A x p s t o did = inr (refl, removal_sent waits A x.a p.a s t o did)
+removal_by_tried (step.RemoveFrom B) false waits B x p s t o did = inr (refl, removal_sent waits B x.b p.b s t o did)
 removal_by_tried (step.RemoveFrom A) false waits B x p s t o did = inl did
 removal_by_tried (step.RemoveFrom B) false waits A x p s t o did = inl did
 removal_by_tried (step.CopyTo to) failed waits side x p s t o did = inl did
@@ -88,12 +89,12 @@ removal_by_tried step.HandOver failed waits side x p s t o did = inl did
 removal_by_tried step.Conflict failed waits side x p s t o did = inl did
 removal_by_tried (step.Held to) failed waits side x p s t o did = inl did
 
-pub removal_tried : (waits : Bool) (side : Side) (x : Sources) (failed : Bool) (p : Planned) (s t : SideNow) (o : Outcome) → RemovalDone waits side x failed p s t o → RemovalTried side x p s t
+pub removal_tried : (waits : Bool) (side : Side) (x : Sources) (failed : Bool) (p : Planned) (s t : SideNow) (o : Outcome) → RemovalDone waits side x failed p s t o → RemovalTried side x failed p s t
 removal_tried waits side x failed p s t o did = removal_by_tried p.step failed waits side x p s t o did
 
 -- ---- one more step
 
-failed_push : (failed : Bool) (os : List Outcome) (o : Outcome) → failed_after failed (os ++ o ∷ []) ≡ (failed_after failed os || is_failure o)
+pub failed_push : (failed : Bool) (os : List Outcome) (o : Outcome) → failed_after failed (os ++ o ∷ []) ≡ (failed_after failed os || is_failure o)
 failed_push failed [] o = refl
 failed_push failed (x ∷ os) o = failed_push (failed || is_failure x) os o
 
@@ -157,31 +158,50 @@ all_turn P os now o more done one = subst (λ (l : List Outcome). AllByRecursion
     push [] all = (one, tt)
     push (x ∷ xs) all = (all.0, push xs all.1)
 
+-- where none has failed behind some of them, none has failed before
+pub none_failed : (failed : Bool) (os : List Outcome) → failed_after failed os ≡ false → failed ≡ false
+none_failed failed [] h = h
+none_failed failed (o ∷ os) h = first failed (is_failure o) (none_failed (failed || is_failure o) os h)
+  where
+    first : (b d : Bool) → (b || d) ≡ false → b ≡ false
+    first false d e = refl
+    first true d e = e
+
+tried_since : (side : Side) (x : Sources) (failed halted : Bool) (p : Planned) (s t : SideNow) → (halted ≡ false → failed ≡ false) → RemovalTried side x halted p s t → RemovalTried side x failed p s t
+tried_since side x failed halted p s t before (inl same) = inl same
+tried_since side x failed halted p s t before (inr (none, sent)) = inr (before none, sent)
+
+pub removals_tried : (waits : Bool) (side : Side) (x : Sources) (failed : Bool) (ps : List Planned) (os : List Outcome) (s t : SideNow) → InOrder (RemovalDone waits side x) failed ps os s t → AllTried (RemovalTried side x failed) ps s t
+removals_tried waits side x failed ps os s t done = by failed ps os s t (λ e. e) done
+  where
+    by : (φ : Bool) (ps : List Planned) (os : List Outcome) (s t : SideNow) → (φ ≡ false → failed ≡ false) → InOrder (RemovalDone waits side x) φ ps os s t → AllTried (RemovalTried side x failed) ps s t
+    by φ [] [] s t before done = done
+    by φ (p ∷ ps) (o ∷ os) s t before (m, did, rest) = (m, tried_since side x failed φ p s m before (removal_tried waits side x φ p s m o did), by (φ || is_failure o) ps os m t (λ e. before (none_failed φ (o ∷ []) e)) rest)
+    by φ [] (o ∷ os) s t before done = absurd done
+    by φ (p ∷ ps) [] s t before done = absurd done
+
 -- the run ends in this turn
 pub puts_end : (waits : Bool) (side : Side) (x : Sources) (all : List Planned) (i : ℕ) (d : Planned) (os : List Outcome) (s m t : SideNow) → i < length all → InOrder (λ failed. PutDid waits side x) false (take i all) os s m → PutTried side x (get_or all i d) m t → AllTried (PutTried side x) all s t
 puts_end waits side x all i d os s m t h done last =
     subst (λ (l : List Planned). AllTried (PutTried side x) l s t) (sym (turn_of all i d h))
     (tried_ends (PutTried side x) (λ q y. inl refl) (take i all) (get_or all i d) (drop (i + 1) all) s m t (order_tried (λ failed. PutDid waits side x) (PutTried side x) (λ failed q y z o did. put_tried waits side x q y z o did) false (take i all) os s m done) last)
 
-pub removals_end : (waits : Bool) (side : Side) (x : Sources) (failed : Bool) (all : List Planned) (i : ℕ) (d : Planned) (os : List Outcome) (s m t : SideNow) → i < length all → InOrder (RemovalDone waits side x) failed (take i all) os s m → RemovalTried side x (get_or all i d) m t → AllTried (RemovalTried side x) all s t
-removals_end waits side x failed all i d os s m t h done last =
-    subst (λ (l : List Planned). AllTried (RemovalTried side x) l s t) (sym (turn_of all i d h))
-    (tried_ends (RemovalTried side x) (λ q y. inl refl) (take i all) (get_or all i d) (drop (i + 1) all) s m t (order_tried (RemovalDone waits side x) (RemovalTried side x) (removal_tried waits side x) failed (take i all) os s m done) last)
+pub removals_end : (waits : Bool) (side : Side) (x : Sources) (failed halted : Bool) (all : List Planned) (i : ℕ) (d : Planned) (os : List Outcome) (s m t : SideNow) → i < length all → halted ≡ failed_after failed os → InOrder (RemovalDone waits side x) failed (take i all) os s m → RemovalTried side x halted (get_or all i d) m t → AllTried (RemovalTried side x failed) all s t
+removals_end waits side x failed halted all i d os s m t h is done last =
+    subst (λ (l : List Planned). AllTried (RemovalTried side x failed) l s t) (sym (turn_of all i d h))
+    (tried_ends (RemovalTried side x failed) (λ q y. inl refl) (take i all) (get_or all i d) (drop (i + 1) all) s m t (removals_tried waits side x failed (take i all) os s m done) (tried_since side x failed halted (get_or all i d) m t (λ e. none_failed failed os (sym is ∙ e)) last))
 
 -- whether one of a list has failed, outcome by outcome
 pub failed_slice : (all : List Outcome) (i : ℕ) (x : Outcome) (now before : Bool) → i < length all → x ≡ get_or all i x → before ≡ failed_after false (take i all) → now ≡ (before || is_failure x) → now ≡ failed_after false (take (i + 1) all)
 failed_slice all i x now before h e so one =
     one ∙ (ap (λ (b : Bool). b || is_failure x) so ∙ (sym (failed_push false (take i all) x) ∙ ap (failed_after false) (ap (λ y. take i all ++ y ∷ []) e ∙ sym (take_more all i x h))))
 
--- nothing is tried
-pub puts_refl : (side : Side) (x : Sources) (ps : List Planned) (s : SideNow) → AllTried (PutTried side x) ps s s
-puts_refl side x ps s = tried_refl (PutTried side x) (λ q y. inl refl) ps s
-
-pub removals_refl : (side : Side) (x : Sources) (ps : List Planned) (s : SideNow) → AllTried (RemovalTried side x) ps s s
-removals_refl side x ps s = tried_refl (RemovalTried side x) (λ q y. inl refl) ps s
-
 pub puts_tried : (waits : Bool) (side : Side) (x : Sources) (ps : List Planned) (os : List Outcome) (s t : SideNow) → InOrder (λ failed. PutDid waits side x) false ps os s t → AllTried (PutTried side x) ps s t
 puts_tried waits side x ps os s t done = order_tried (λ failed. PutDid waits side x) (PutTried side x) (λ failed q y z o did. put_tried waits side x q y z o did) false ps os s t done
 
-pub removals_tried : (waits : Bool) (side : Side) (x : Sources) (failed : Bool) (ps : List Planned) (os : List Outcome) (s t : SideNow) → InOrder (RemovalDone waits side x) failed ps os s t → AllTried (RemovalTried side x) ps s t
-removals_tried waits side x failed ps os s t done = order_tried (RemovalDone waits side x) (RemovalTried side x) (removal_tried waits side x) failed ps os s t done
+pub removals_refl : (side : Side) (x : Sources) (failed : Bool) (ps : List Planned) (s : SideNow) → AllTried (RemovalTried side x failed) ps s s
+removals_refl side x failed ps s = tried_refl (RemovalTried side x failed) (λ q y. inl refl) ps s
+
+-- what a run did it tried
+pub did_tried : (waits : Bool) (side : Side) (x : Sources) (ps : List Planned) (s t : SideNow) (os : Outcomes) → WritesDid waits side x ps s t os → WritesTried waits side x ps s t
+did_tried waits side x ps s t os did = inr (record { between = did.between; put = os.put.items; puts = did.puts; removals = removals_tried waits side x (failed_after false os.put.items) ps os.removed.items did.between t did.removals })

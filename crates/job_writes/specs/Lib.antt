@@ -1,1 +1,3 @@
 pub mod Writings
+pub mod Faults
+pub mod Knowns

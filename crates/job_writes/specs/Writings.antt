@@ -71,9 +71,20 @@ IsUnsent c error s t = Unsent c s.state s.waiting t.state t.waiting error
 abbrev pub IsUntouched : SideNow → SideNow → Type 0
 IsUntouched s t = Evolves IsOutside s.state t.state × (t.waiting ≡ s.waiting)
 
+-- an error that may come before anything is sent
+abbrev pub IsEarly : StoreError → Type 0
+IsEarly store.Fault = Unit {0}
+IsEarly store.NoMemory = Unit {0}
+IsEarly store.Moved = ⊥
+IsEarly store.TooLong = ⊥
+IsEarly store.TooMany = ⊥
+IsEarly store.NotThere = ⊥
+IsEarly (store.Vanished href) = ⊥
+IsEarly (store.BadItem href error) = ⊥
+
 -- the call that was to store a new item answered the error
 abbrev pub NewFails : List ℕ → StoreError → SideNow → SideNow → Type 0
-NewFails text error s t = (IsUntouched s t × (error ≡ store.Moved → ⊥)) ⊎ ((href : List ℕ) × IsUnsent (new_at href text) error s t)
+NewFails text error s t = (IsUntouched s t × IsEarly error) ⊎ ((href : List ℕ) × IsUnsent (new_at href text) error s t)
 
 -- whatever a call answered: the change acted whole or not at all, or it waits
 abbrev pub Sends : Change → SideNow → SideNow → Type 0
@@ -360,12 +371,13 @@ RemovalSentBy step.HandOver side x p s t = ⊥
 RemovalSentBy step.Conflict side x p s t = ⊥
 RemovalSentBy (step.Held to) side x p s t = ⊥
 
-abbrev pub RemovalTried : Side → Sources → Planned → SideNow → SideNow → Type 0
-RemovalTried side x p s t = (t ≡ s) ⊎ RemovalSentBy p.step side x p s t
+-- nothing was done on the side, or what the step says was sent there, none before it having failed
+abbrev pub RemovalTried : Side → Sources → Bool → Planned → SideNow → SideNow → Type 0
+RemovalTried side x failed p s t = (t ≡ s) ⊎ ((failed ≡ false) × RemovalSentBy p.step side x p s t)
 
 abbrev pub RemovalTurn : Bool → Side → Sources → Bool → Planned → SideNow → SideNow → Result Outcome AllocError → Type 0
 RemovalTurn waits side x failed p s t (Ok o) = RemovalDone waits side x failed p s t o
-RemovalTurn waits side x failed p s t (Err e) = RemovalTried side x p s t
+RemovalTurn waits side x failed p s t (Err e) = RemovalTried side x failed p s t
 
 abbrev pub FitsRemoval : Bool → Step → Outcome → Type 0
 FitsRemoval true (step.RemoveFrom from) o = o ≡ Skipped
@@ -405,7 +417,7 @@ PutsAnswer waits side x ps s t (Err e) = AllTried (PutTried side x) ps s t
 
 abbrev pub RemovalsAnswer : Bool → Side → Sources → Bool → List Planned → SideNow → SideNow → Result (Vec Outcome Global) AllocError → Type 0
 RemovalsAnswer waits side x failed ps s t (Ok os) = InOrder (RemovalDone waits side x) failed ps os.items s t
-RemovalsAnswer waits side x failed ps s t (Err e) = AllTried (RemovalTried side x) ps s t
+RemovalsAnswer waits side x failed ps s t (Err e) = AllTried (RemovalTried side x failed) ps s t
 
 -- whether one of them has failed, or one before them
 abbrev pub failed_after : Bool → List Outcome → Bool
@@ -420,15 +432,20 @@ pub record WritesDid (waits : Bool) (side : Side) (x : Sources) (ps : List Plann
   pub puts : InOrder (λ failed. PutDid waits side x) false ps os.put.items s between
   pub removals : InOrder (RemovalDone waits side x) (failed_after false os.put.items) ps os.removed.items between t
 
--- and where the run ended among them
-pub record WritesTried (side : Side) (x : Sources) (ps : List Planned) (s t : SideNow) : Type 0 where
+-- and where the run ended among the removals: all other steps have their outcomes
+pub record RemovalsTried (waits : Bool) (side : Side) (x : Sources) (ps : List Planned) (s t : SideNow) : Type 0 where
   pub between : SideNow
-  pub puts : AllTried (PutTried side x) ps s between
-  pub removals : AllTried (RemovalTried side x) ps between t
+  pub put : List Outcome
+  pub puts : InOrder (λ failed. PutDid waits side x) false ps put s between
+  pub removals : AllTried (RemovalTried side x (failed_after false put)) ps between t
+
+-- and where it ended anywhere: among the other steps no removal was sent
+abbrev pub WritesTried : Bool → Side → Sources → List Planned → SideNow → SideNow → Type 0
+WritesTried waits side x ps s t = AllTried (PutTried side x) ps s t ⊎ RemovalsTried waits side x ps s t
 
 abbrev pub WritesAnswer : Bool → Side → Sources → List Planned → SideNow → SideNow → Result Outcomes AllocError → Type 0
 WritesAnswer waits side x ps s t (Ok os) = WritesDid waits side x ps s t os
-WritesAnswer waits side x ps s t (Err e) = WritesTried side x ps s t
+WritesAnswer waits side x ps s t (Err e) = WritesTried waits side x ps s t
 
 -- each step has its outcomes
 pub record IsWhole (x : Sources) (ps : List Planned) (os : Outcomes) : Type 0 where

@@ -1,11 +1,14 @@
 //! All steps of a plan: first all but the removals, then the removals.
 
-ghost use Rattle.std.specs.Prelude.{◌≡◌, ◌||◌, ◌++◌, ◌∷◌, [], false, true, IfOk, OnOk};
+ghost use Rattle.std.specs.Prelude.{◌≡◌, ◌+◌, ◌||◌, ◌++◌, ◌∷◌, [], false, true, IfOk, OnOk};
 ghost use Rattle.std.specs.List.{AllByRecursion};
 ghost use Rattle.outside.specs.Causes.{Rose};
 ghost use Rattle.store_model.specs.Sides.{IsAnyEvent};
-ghost use Rattle.store_model.specs.StoreCalls.{Changes, Stays};
+ghost use Rattle.store_model.specs.Waits.{ActsOrWaits};
+ghost use Rattle.store_model.specs.StoreCalls.{Changes, Stays, IsKnown};
 ghost use Rattle.sync_plan.specs.declared.report.Side.TheVariants as side;
+ghost use Rattle.job_writes.specs.Knowns.{AllMoveByEdit};
+ghost use Rattle.job_writes.specs.Faults.{RoseBy, faults_of};
 ghost use Rattle.job_writes.specs.Writings.{now_of, sources, IsNamedFor, FitsPut, FitsRemoval, AllFit, PutsAnswer, RemovalsAnswer, WritesAnswer, IsWhole, IsCausedOutcome, AreCaused, is_failure, failed_after};
 
 use crate::outcome::Outcome;
@@ -36,10 +39,16 @@ fn put_all<A: Store, B: Store>(
     ensures changes_a { Changes A.count A.tells A.side IsAnyEvent a.old a.new }
     ensures changes_b { Changes B.count B.tells B.side IsAnyEvent b.old b.new }
     ensures answer_a { A.tells a.old → PutsAnswer (A.waits a.old) side.A (sources held_a.now held_b.now) plan.now (now_of (A.side a.old) (A.waiting a.old)) (now_of (A.side a.new) (A.waiting a.new)) result }
+    ensures acts_a { A.tells a.old → ActsOrWaits (A.waits a.old) (A.side a.old) (A.side a.new) }
     ensures answer_b { B.tells b.old → PutsAnswer (B.waits b.old) side.B (sources held_a.now held_b.now) plan.now (now_of (B.side b.old) (B.waiting b.old)) (now_of (B.side b.new) (B.waiting b.new)) result }
+    ensures acts_b { B.tells b.old → ActsOrWaits (B.waits b.old) (B.side b.old) (B.side b.new) }
     ensures fits { IfOk result (λ os. AllFit (λ failed p. FitsPut p.step) false plan.now os.items) }
     ensures named { IfOk result (λ os. AllFit (λ failed. IsNamedFor (sources held_a.now held_b.now)) false plan.now os.items) }
     ensures causes { IfOk result (λ os. AllByRecursion (IsCausedOutcome (Rose (A.count a.old) (A.count a.new)) (Rose (B.count b.old) (B.count b.new))) os.items) }
+    ensures faults_a { IfOk result (λ os. RoseBy (A.count a.old) (faults_of side.A os.items) (A.count a.new)) }
+    ensures faults_b { IfOk result (λ os. RoseBy (B.count b.old) (faults_of side.B os.items) (B.count b.new)) }
+    ensures moved_a { A.tells a.old → IsKnown (A.taken a.old) (A.side a.old) → IfOk result (λ os. AllMoveByEdit side.A (A.side a.old) (A.side a.new) plan.now os.items) }
+    ensures moved_b { B.tells b.old → IsKnown (B.taken b.old) (B.side b.old) → IfOk result (λ os. AllMoveByEdit side.B (B.side b.old) (B.side b.new) plan.now os.items) }
     ensures kind_a { Stays A.waits A.is_sure a.old a.new }
     ensures kind_b { Stays B.waits B.is_sure b.old b.new }
     ensures listed_a { A.is_listed a.new ≡ A.is_listed a.old }
@@ -98,9 +107,13 @@ fn remove_all<A: Store, B: Store>(
     ensures changes_a { Changes A.count A.tells A.side IsAnyEvent a.old a.new }
     ensures changes_b { Changes B.count B.tells B.side IsAnyEvent b.old b.new }
     ensures answer_a { A.tells a.old → RemovalsAnswer (A.waits a.old) side.A (sources held_a.now held_b.now) failed plan.now (now_of (A.side a.old) (A.waiting a.old)) (now_of (A.side a.new) (A.waiting a.new)) result }
+    ensures acts_a { A.tells a.old → ActsOrWaits (A.waits a.old) (A.side a.old) (A.side a.new) }
     ensures answer_b { B.tells b.old → RemovalsAnswer (B.waits b.old) side.B (sources held_a.now held_b.now) failed plan.now (now_of (B.side b.old) (B.waiting b.old)) (now_of (B.side b.new) (B.waiting b.new)) result }
+    ensures acts_b { B.tells b.old → ActsOrWaits (B.waits b.old) (B.side b.old) (B.side b.new) }
     ensures fits { IfOk result (λ os. AllFit (λ failed p. FitsRemoval failed p.step) failed plan.now os.items) }
     ensures causes { IfOk result (λ os. AllByRecursion (IsCausedOutcome (Rose (A.count a.old) (A.count a.new)) (Rose (B.count b.old) (B.count b.new))) os.items) }
+    ensures faults_a { IfOk result (λ os. RoseBy (A.count a.old) (faults_of side.A os.items) (A.count a.new)) }
+    ensures faults_b { IfOk result (λ os. RoseBy (B.count b.old) (faults_of side.B os.items) (B.count b.new)) }
     ensures kind_a { Stays A.waits A.is_sure a.old a.new }
     ensures kind_b { Stays B.waits B.is_sure b.old b.new }
     ensures listed_a { A.is_listed a.new ≡ A.is_listed a.old }
@@ -145,9 +158,15 @@ pub fn write_all<A: Store, B: Store>(
     ensures changes_a { Changes A.count A.tells A.side IsAnyEvent a.old a.new }
     ensures changes_b { Changes B.count B.tells B.side IsAnyEvent b.old b.new }
     ensures answer_a { A.tells a.old → WritesAnswer (A.waits a.old) side.A (sources held_a.now held_b.now) plan.now (now_of (A.side a.old) (A.waiting a.old)) (now_of (A.side a.new) (A.waiting a.new)) result }
+    ensures acts_a { A.tells a.old → ActsOrWaits (A.waits a.old) (A.side a.old) (A.side a.new) }
     ensures answer_b { B.tells b.old → WritesAnswer (B.waits b.old) side.B (sources held_a.now held_b.now) plan.now (now_of (B.side b.old) (B.waiting b.old)) (now_of (B.side b.new) (B.waiting b.new)) result }
+    ensures acts_b { B.tells b.old → ActsOrWaits (B.waits b.old) (B.side b.old) (B.side b.new) }
     ensures fits { IfOk result (IsWhole (sources held_a.now held_b.now) plan.now) }
     ensures causes { IfOk result (AreCaused (Rose (A.count a.old) (A.count a.new)) (Rose (B.count b.old) (B.count b.new))) }
+    ensures faults_a { IfOk result (λ os. RoseBy (A.count a.old) (faults_of side.A os.put.items + faults_of side.A os.removed.items) (A.count a.new)) }
+    ensures faults_b { IfOk result (λ os. RoseBy (B.count b.old) (faults_of side.B os.put.items + faults_of side.B os.removed.items) (B.count b.new)) }
+    ensures moved_a { A.tells a.old → IsKnown (A.taken a.old) (A.side a.old) → IfOk result (λ os. AllMoveByEdit side.A (A.side a.old) (A.side a.new) plan.now os.put.items) }
+    ensures moved_b { B.tells b.old → IsKnown (B.taken b.old) (B.side b.old) → IfOk result (λ os. AllMoveByEdit side.B (B.side b.old) (B.side b.new) plan.now os.put.items) }
     ensures kind_a { Stays A.waits A.is_sure a.old a.new }
     ensures kind_b { Stays B.waits B.is_sure b.old b.new }
     ensures listed_a { A.is_listed a.new ≡ A.is_listed a.old }

@@ -2,9 +2,11 @@
 
 ghost use Rattle.std.specs.Prelude.{◌≡◌, ℕ, List, true, IfOk, OnOk};
 ghost use Rattle.outside.specs.Causes.{Rose};
-ghost use Rattle.store_model.specs.Sides.{IsAnyEvent};
-ghost use Rattle.store_model.specs.StoreCalls.{Changes, Stays, Keeps};
+ghost use Rattle.store_model.specs.Sides.{IsAnyEvent, WasEdited};
+ghost use Rattle.store_model.specs.Waits.{ActsOrWaits};
+ghost use Rattle.store_model.specs.StoreCalls.{Changes, Stays, Keeps, IsKnown};
 ghost use Rattle.store_model.specs.declared.store.StoreError.TheVariants as error_of;
+ghost use Rattle.job_writes.specs.Knowns.{KnownAfter, IsMovedOut};
 ghost use Rattle.job_writes.specs.Writings.{row_beside, now_of, CopyAnswer, OverAnswer, RemovalAnswer, IsPut, IsRowOf, IsRemoval, IsCausedOn};
 
 use crate::outcome::Outcome;
@@ -71,9 +73,12 @@ pub fn copy_to<S: Store>(
     requires { S.is_listed store.old ≡ true }
     ensures changes { Changes S.count S.tells S.side IsAnyEvent store.old store.new }
     ensures answer { S.tells store.old → CopyAnswer (S.waits store.old) side from.entry.seen.now from.entry.item.now (now_of (S.side store.old) (S.waiting store.old)) (now_of (S.side store.new) (S.waiting store.new)) result }
+    ensures acts { S.tells store.old → ActsOrWaits (S.waits store.old) (S.side store.old) (S.side store.new) }
     ensures fits { IfOk result (IsPut side) }
     ensures named { IfOk result (IsRowOf from.entry.seen.now.ident) }
     ensures cause { IfOk result (IsCausedOn side (Rose (S.count store.old) (S.count store.new))) }
+    ensures known { S.tells store.old → IsKnown (S.taken store.old) (S.side store.old) → IfOk result (KnownAfter (S.side store.old) (S.taken store.new) (S.side store.new)) }
+    ensures moved { S.tells store.old → IsKnown (S.taken store.old) (S.side store.old) → IfOk result (λ o. IsMovedOut o → WasEdited (S.side store.old) (S.side store.new)) }
     ensures kind { Stays S.waits S.is_sure store.old store.new }
     ensures kept { Keeps S.is_listed S.recalls store.old store.new }
     ensures same { S.setting store.new ≡ S.setting store.old }
@@ -98,9 +103,11 @@ pub fn write_over<S: Store>(
     requires { S.is_listed store.old ≡ true }
     ensures changes { Changes S.count S.tells S.side IsAnyEvent store.old store.new }
     ensures answer { S.tells store.old → OverAnswer (S.waits store.old) side over.now from.entry.seen.now from.entry.item.now (now_of (S.side store.old) (S.waiting store.old)) (now_of (S.side store.new) (S.waiting store.new)) result }
+    ensures acts { S.tells store.old → ActsOrWaits (S.waits store.old) (S.side store.old) (S.side store.new) }
     ensures fits { IfOk result (IsPut side) }
     ensures named { IfOk result (IsRowOf from.entry.seen.now.ident) }
     ensures cause { IfOk result (IsCausedOn side (Rose (S.count store.old) (S.count store.new))) }
+    ensures known { S.tells store.old → IsKnown (S.taken store.old) (S.side store.old) → IfOk result (KnownAfter (S.side store.old) (S.taken store.new) (S.side store.new)) }
     ensures kind { Stays S.waits S.is_sure store.old store.new }
     ensures kept { Keeps S.is_listed S.recalls store.old store.new }
     ensures taken { (q : List ℕ) → S.taken store.new q ≡ S.taken store.old q }
@@ -136,6 +143,7 @@ pub fn remove_from<S: Store>(store: &mut S, side: Side, over: &Seen) -> Result<O
     requires { S.is_listed store.old ≡ true }
     ensures changes { Changes S.count S.tells S.side IsAnyEvent store.old store.new }
     ensures answer { S.tells store.old → RemovalAnswer (S.waits store.old) side over.now (now_of (S.side store.old) (S.waiting store.old)) (now_of (S.side store.new) (S.waiting store.new)) result }
+    ensures acts { S.tells store.old → ActsOrWaits (S.waits store.old) (S.side store.old) (S.side store.new) }
     ensures fits { IfOk result (IsRemoval side) }
     ensures cause { IfOk result (IsCausedOn side (Rose (S.count store.old) (S.count store.new))) }
     ensures kind { Stays S.waits S.is_sure store.old store.new }

@@ -6,7 +6,7 @@ ghost use Rattle.std.specs.BTreeSet.{contains_text};
 ghost use Rattle.outside.specs.Causes.{Rose};
 ghost use Rattle.store_model.specs.Names.{file_stem, IsFreeName};
 ghost use Rattle.store_model.specs.Sides.{IsOutside, Sometime, KeepsItem};
-ghost use Rattle.store_model.specs.Waits.{IsWriteOfThese, over_at, gone_at};
+ghost use Rattle.store_model.specs.Waits.{ActsOrWaits, IsWriteOfThese, over_at, gone_at};
 ghost use Rattle.store_model.specs.StoreCalls.{Changes, StoreCause, IsListing, TakenByList, TakenByPut, IsGetOf, GetAnswer, IsPutOf, PutNewAnswer, PutOverAnswer, DropAnswer, FlushAnswer};
 ghost use Rattle.vdir_store.specs.Vdir.{held_of};
 ghost use Rattle.vdir_store.specs.VdirCalls.{FetchAnswer, change_of};
@@ -163,6 +163,7 @@ fn send(
     ensures changes { Changes count_of IsSound desk_side (IsWriteOfThese (change_of href.now expect.entry (option_copied new.entry) ∷ [])) desk.old desk.new }
     ensures cause { IfErr result (StoreCause (Rose (count_of desk.old) (count_of desk.new))) }
     ensures answer { IsSound desk.old → PutOverAnswer waits (change_of href.now expect.entry (option_copied new.entry)) (desk_side desk.old) (waiting_of desk.old) (desk_side desk.new) (waiting_of desk.new) result }
+    ensures acts { IsSound desk.old → ActsOrWaits waits (desk_side desk.old) (desk_side desk.new) }
 {
     match desk.begin() {
         Err(error) => Err(error),
@@ -180,6 +181,7 @@ pub fn put_over(
     ensures changes { Changes count_of IsSound desk_side (IsWriteOfThese (over_at href.now tag.now item.now.text ∷ [])) desk.old desk.new }
     ensures cause { IfErr result (StoreCause (Rose (count_of desk.old) (count_of desk.new))) }
     ensures answer { IsSound desk.old → PutOverAnswer waits (over_at href.now tag.now item.now.text) (desk_side desk.old) (waiting_of desk.old) (desk_side desk.new) (waiting_of desk.new) result }
+    ensures acts { IsSound desk.old → ActsOrWaits waits (desk_side desk.old) (desk_side desk.new) }
 {
     let bytes = item.text().as_bytes();
     send(desk, waits, href, Expect::Etag(tag), Some(bytes))
@@ -189,6 +191,7 @@ pub fn take_away(desk: &mut Desk, waits: bool, href: &str, tag: &str) -> Result<
     ensures changes { Changes count_of IsSound desk_side (IsWriteOfThese (gone_at href.now tag.now ∷ [])) desk.old desk.new }
     ensures cause { IfErr result (StoreCause (Rose (count_of desk.old) (count_of desk.new))) }
     ensures answer { IsSound desk.old → DropAnswer waits (gone_at href.now tag.now) (desk_side desk.old) (waiting_of desk.old) (desk_side desk.new) (waiting_of desk.new) result }
+    ensures acts { IsSound desk.old → ActsOrWaits waits (desk_side desk.old) (desk_side desk.new) }
 {
     match send(desk, waits, href, Expect::Etag(tag), None) {
         Ok(_) => Ok(()),
@@ -206,6 +209,7 @@ fn put_item(
     item: &Item,
 ) -> Result<Put, StoreError>
     ensures answer { PutNewAnswer waits (IsFreeName (contains_text names.old) (file_stem item.now.ident) vcf_ending) item.now (desk_side desk.old) (waiting_of desk.old) (desk_side desk.new) (waiting_of desk.new) result }
+    ensures acts { ActsOrWaits waits (desk_side desk.old) (desk_side desk.new) }
     ensures cause { IfErr result (StoreCause (fails ≡ true)) }
     ensures sound { IsSound desk.old → IsSound desk.new }
     ensures count { count_of desk.new ≡ count_of desk.old }
@@ -238,6 +242,7 @@ pub fn put_new(
     ensures changes { Changes count_of IsSound desk_side (IsPutOf item.now) desk.old desk.new }
     ensures cause { IfErr result (StoreCause (Rose (count_of desk.old) (count_of desk.new))) }
     ensures answer { IsSound desk.old → PutNewAnswer waits (IsFreeName (contains_text names.old) (file_stem item.now.ident) vcf_ending) item.now (desk_side desk.old) (waiting_of desk.old) (desk_side desk.new) (waiting_of desk.new) result }
+    ensures acts { IsSound desk.old → ActsOrWaits waits (desk_side desk.old) (desk_side desk.new) }
     ensures names { TakenByPut (contains_text names.old) (contains_text names.new) result }
 {
     match desk.begin() {

@@ -4,7 +4,7 @@ ghost use Rattle.std.specs.Prelude.{◌≡◌, true, false, List, [], ◌∷◌,
 ghost use Rattle.std.specs.Option.{option_map};
 ghost use Rattle.outside.specs.Causes.{Rose};
 ghost use Rattle.store_model.specs.Sides.{Content, Evolves, IsOutside, KeepsItem};
-ghost use Rattle.store_model.specs.Waits.{Change as Waits};
+ghost use Rattle.store_model.specs.Waits.{Change as Waits, ActsOrWaits};
 ghost use Rattle.store_model.specs.StoreCalls.{Changes, StoreCause, PutOverAnswer, FlushAnswer};
 ghost use Rattle.vdir_store.specs.Vdir.{held_of};
 ghost use Rattle.vdir_store.specs.VdirCalls.{expected_by, change_of};
@@ -290,6 +290,7 @@ impl Desk {
     ) -> Result<Option<Text>, StoreError>
         requires { KeepsItem (option_map held_of (option_copied new)) (option_copied new) }
         ensures answer { PutOverAnswer true (change_of href.now expect.entry (option_copied new.entry)) (desk_side self.old) (waiting_of self.old) (desk_side self.new) (waiting_of self.new) result }
+        ensures acts { ActsOrWaits true (desk_side self.old) (desk_side self.new) }
         ensures cause { IfErr result (StoreCause (fails ≡ true)) }
         ensures sound { IsSound self.old → IsSound self.new }
         ensures count { count_of self.new ≡ count_of self.old }
@@ -315,6 +316,7 @@ impl Desk {
     ) -> Result<Option<Text>, StoreError>
         requires { KeepsItem (option_map held_of (option_copied new)) (option_copied new) }
         ensures answer { PutOverAnswer waits (change_of href.now expect.entry (option_copied new.entry)) (desk_side self.old) (waiting_of self.old) (desk_side self.new) (waiting_of self.new) result }
+        ensures acts { ActsOrWaits waits (desk_side self.old) (desk_side self.new) }
         ensures cause { IfErr result (StoreCause (fails ≡ true)) }
         ensures sound { IsSound self.old → IsSound self.new }
         ensures count { count_of self.new ≡ count_of self.old }

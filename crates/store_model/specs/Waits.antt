@@ -59,6 +59,10 @@ abbrev pub Sent : Bool → Change → Option (List ℕ) → SideState → List C
 Sent false c etag s w t w' = (acts : Acts c s t) × (etag ≡ option_map (λ h. h.etag) acts.new) × (w' ≡ w)
 Sent true c etag s w t w' = Evolves IsOutside s t × (etag ≡ None) × (w' ≡ w ++ c ∷ [])
 
+-- a store whose writes wait changes nothing before it is flushed
+pub record ActsOrWaits (waits : Bool) (s t : SideState) : Type 0 where
+  pub until_flush : waits ≡ true → Evolves IsOutside s t
+
 -- all that waits acts, in order
 abbrev pub ActAll : List Change → SideState → SideState → Type 0
 ActAll [] s t = t ≡ s

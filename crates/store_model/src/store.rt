@@ -132,7 +132,7 @@ impl From<FolderError> for StoreError {
 pub trait Store {
     ghost use Rattle.item_text.specs.Items.{ItemValue};
     ghost use Rattle.store_model.specs.Sides.{Content, SideState, IsOutside, Sometime};
-    ghost use Rattle.store_model.specs.Waits.{Change, over_at, gone_at, IsWriteOfThese};
+    ghost use Rattle.store_model.specs.Waits.{Change, ActsOrWaits, over_at, gone_at, IsWriteOfThese};
     ghost use Rattle.store_model.specs.declared.store.HookNote.{HookNote};
     ghost use Rattle.store_model.specs.StoreCalls.{StoreCause, Changes, Stays, RunsNoHook, Keeps, KeepsByList, KeepsByFlush, IsListed, TakenByList, TakenByPut, IsGetOf, GetAnswer, IsPutOf, PutNewAnswer, PutOverAnswer, DropAnswer, FlushAnswer};
 
@@ -218,6 +218,7 @@ pub trait Store {
         ensures changes { Changes count tells side (IsPutOf item.now) self.old self.new }
         ensures cause { IfErr result (StoreCause (Rose (count self.old) (count self.new))) }
         ensures answer { tells self.old → PutNewAnswer (waits self.old) (may_name self.old item.now) item.now (side self.old) (waiting self.old) (side self.new) (waiting self.new) result }
+        ensures acts { tells self.old → ActsOrWaits (waits self.old) (side self.old) (side self.new) }
         ensures kind { Stays waits is_sure self.old self.new }
         ensures kept { Keeps is_listed recalls self.old self.new }
         ensures hrefs { TakenByPut (taken self.old) (taken self.new) result }
@@ -231,6 +232,7 @@ pub trait Store {
         ensures changes { Changes count tells side (IsWriteOfThese (over_at href.now etag.now item.now.text ∷ [])) self.old self.new }
         ensures cause { IfErr result (StoreCause (Rose (count self.old) (count self.new))) }
         ensures answer { tells self.old → PutOverAnswer (waits self.old) (over_at href.now etag.now item.now.text) (side self.old) (waiting self.old) (side self.new) (waiting self.new) result }
+        ensures acts { tells self.old → ActsOrWaits (waits self.old) (side self.old) (side self.new) }
         ensures kind { Stays waits is_sure self.old self.new }
         ensures kept { Keeps is_listed recalls self.old self.new }
         ensures hrefs { (q : List ℕ) → taken self.new q ≡ taken self.old q }
@@ -244,6 +246,7 @@ pub trait Store {
         ensures changes { Changes count tells side (IsWriteOfThese (gone_at href.now etag.now ∷ [])) self.old self.new }
         ensures cause { IfErr result (StoreCause (Rose (count self.old) (count self.new))) }
         ensures answer { tells self.old → DropAnswer (waits self.old) (gone_at href.now etag.now) (side self.old) (waiting self.old) (side self.new) (waiting self.new) result }
+        ensures acts { tells self.old → ActsOrWaits (waits self.old) (side self.old) (side self.new) }
         ensures kind { Stays waits is_sure self.old self.new }
         ensures kept { Keeps is_listed recalls self.old self.new }
         ensures hrefs { (q : List ℕ) → taken self.new q ≡ taken self.old q }

@@ -3,5 +3,4 @@ pub mod Merging
 pub mod Placing
 pub mod Plans
 pub mod Stories
-pub mod Table
 pub mod Verdicts

@@ -14,8 +14,14 @@ pub enum Side {
 /// What was not done for an ident.
 #[derive(Debug, Drop)]
 pub enum What {
+    /// Both sides changed, and no rule says who wins.
+    Conflict,
     /// The write to that side answered the error.
     NotWritten { side: Side, error: StoreError },
+    /// The removal from that side answered the error.
+    NotRemoved { side: Side, error: StoreError },
+    /// It was not removed, since an earlier write of the run failed.
+    Skipped,
 }
 
 /// A line of a report: an ident, and what was not done for it.
@@ -37,15 +43,15 @@ pub enum Refusal {
         side: Side,
         error: StoreError,
     },
-    /// Two items of that side have the ident: its first two hrefs, in byte order.
+    /// That side has no item, where the other has one and the status a row.
+    StorageEmpty(Side),
+    /// Two items of that side have the ident: its first two hrefs in the order of the listing.
     SameIdent {
         side: Side,
         ident: Text,
         first: Text,
         second: Text,
     },
-    /// The least ident whose step is not built yet.
-    NotBuilt(Text),
 }
 
 /// How a job ended.
@@ -54,12 +60,15 @@ pub enum JobEnd {
     /// The sides and the status were brought together, but for what the lines say.
     Synced,
     Refused(Refusal),
+    /// The flush of that side answered the error; the status was not written.
+    NotFlushed { side: Side, error: StoreError },
     /// All was written but the status.
     NotCommitted(KeeperError),
+    /// Memory ran out. There are no lines.
     NoMemory,
 }
 
-/// How a job ended, and a line for each ident that was not done.
+/// How a job ended, and a line for each ident that was not done, in byte order of idents.
 #[derive(Debug, Drop)]
 pub struct Report {
     pub end: JobEnd,

@@ -1,170 +1,241 @@
--- How a job ends, and which ends have a cause.
-use Rattle.std.specs.Prelude.{◌≡◌, ◌≤◌, ◌+◌, ◌-◌, ◌^◌, ℕ, min, List, [], ◌∷◌, Option, Some, None}
+-- One run of one job, from its first call to its last, by its report (this project's own).
+use Rattle.std.specs.Prelude.{◌≡◌, ◌⊎◌, ℕ, Bool, true, false, List, [], Option, Ok, Err}
 use Rattle.store_model.specs.declared.store.StoreError.{StoreError}
 use Rattle.store_model.specs.declared.store.StoreError.TheVariants as store
+use Rattle.store_model.specs.Sides.{SideState, WasEdited}
+use Rattle.store_model.specs.Waits.{Change, ActsOrWaits}
+use Rattle.store_model.specs.StoreCalls.{FlushAnswer}
+use Rattle.status_keeper.specs.declared.row.Row.{Row}
 use Rattle.status_keeper.specs.declared.keeper.KeeperError.{KeeperError}
 use Rattle.status_keeper.specs.declared.keeper.KeeperError.TheVariants as keeper
+use Rattle.status_keeper.specs.Kept.{KeeperEvent, KeeperState, Edited, Toggled, Made, Committed, Spoiled, IsMaking}
+use Rattle.status_keeper.specs.Kept as status
+use Rattle.status_keeper.specs.KeeperCalls.{AfterPlacing, Commits, CommitAnswer, found_at}
 use Rattle.sync_plan.specs.declared.report.Side.{Side}
 use Rattle.sync_plan.specs.declared.report.Side.TheVariants.{A, B}
-use Rattle.sync_plan.specs.declared.report.What.{What}
-use Rattle.sync_plan.specs.declared.report.What.TheVariants.{NotWritten}
-use Rattle.sync_plan.specs.declared.report.Line.{Line}
-use Rattle.sync_plan.specs.declared.report.Refusal.TheVariants.{SameLocation, Status, Storage, SameIdent, NotBuilt}
+use Rattle.sync_plan.specs.declared.rules.Rules.{Rules}
+use Rattle.sync_plan.specs.declared.seen.Planned.{Planned}
+use Rattle.sync_plan.specs.declared.seen.PlanError.{PlanError}
+use Rattle.sync_plan.specs.declared.seen.PlanError.TheVariants as plan_error
+use Rattle.sync_plan.specs.Plans.{IsPlan, IsPlanRefusal}
+use Rattle.job_runs.specs.Jobs.{JobOf}
+use Rattle.job_reads.specs.declared.stop.Stop.{Stop}
+use Rattle.job_reads.specs.declared.stop.Stop.TheVariants as stop
+use Rattle.job_reads.specs.declared.reading.ReadJob.{ReadJob}
+use Rattle.job_reads.specs.Readings.{Span, span, IsRead, IsStop, course_of_a, course_of_b}
+use Rattle.job_writes.specs.declared.phases.Outcomes.{Outcomes}
+use Rattle.job_writes.specs.Knowns.{AllMoveByEdit}
+use Rattle.job_writes.specs.Writings.{SideNow, now_of, Sources, sources, WritesDid, IsWhole}
+use Rattle.job_rows.specs.RowsAfter.{rows_after, IsUnchanged}
+use Rattle.job_traces.specs.Traces.{WroteOn, AllFlushed, IsFlushed}
+use Rattle.sync_plan.specs.declared.report.Refusal.{Refusal}
+use Rattle.sync_plan.specs.declared.report.Refusal.TheVariants.{SameLocation, Status, Storage, StorageEmpty, SameIdent}
 use Rattle.sync_plan.specs.declared.report.JobEnd.{JobEnd}
-use Rattle.sync_plan.specs.declared.report.JobEnd.TheVariants.{Synced, Refused, NotCommitted, NoMemory}
+use Rattle.sync_plan.specs.declared.report.JobEnd.TheVariants.{Synced, Refused, NotFlushed, NotCommitted, NoMemory}
+use Rattle.sync_plan.specs.declared.report.Report.{Report}
+use Rattle.sync_run.specs.Lines.{lines_of}
 
--- the end of a job whose side answers this error to a reading call
-abbrev pub end_of : Side → StoreError → JobEnd
-end_of side store.NoMemory = NoMemory
-end_of side error = Refused (Storage side error)
+-- ---- the status
 
--- the end of a job whose status answers this error to its load
-abbrev pub unloaded_end : KeeperError → JobEnd
-unloaded_end keeper.NoMemory = NoMemory
-unloaded_end error = Refused (Status error)
+-- no own write but of rows
+abbrev pub IsKeeping : KeeperEvent → Type 0
+IsKeeping (Edited kept stamp) = Unit {0}
+IsKeeping Toggled = Unit {0}
+IsKeeping Made = Unit {0}
+IsKeeping (Committed rows) = Unit {0}
+IsKeeping (Spoiled kept stamp) = ⊥
 
--- the end of a job whose commit answers this error
-abbrev pub uncommitted_end : KeeperError → JobEnd
-uncommitted_end keeper.NoMemory = NoMemory
-uncommitted_end error = NotCommitted error
+-- ---- a run that stops while it reads
 
-abbrev pub AtSide : {X : Type 0} → Side → (X → Type 0) → (X → Type 0) → X → Type 0
-AtSide A a b x = a x
-AtSide B a b x = b x
+-- the end by a reading call of a side that answered the error: want of memory ends a run as such, whichever call met it
+abbrev pub end_of_reading : Side → StoreError → JobEnd
+end_of_reading side store.NoMemory = NoMemory
+end_of_reading side error = Refused (Storage side error)
 
--- an end before anything is written
-abbrev pub IsEarlyEnd : JobEnd → Type 0
-IsEarlyEnd (Refused refusal) = Unit {0}
-IsEarlyEnd NoMemory = Unit {0}
-IsEarlyEnd Synced = ⊥
-IsEarlyEnd (NotCommitted error) = ⊥
+abbrev pub end_of_load : KeeperError → JobEnd
+end_of_load keeper.NoMemory = NoMemory
+end_of_load error = Refused (Status error)
 
--- an end by an error has the error's cause: a, b or k, as it is of side A, of side B or of the status
-abbrev pub IsCausedEnd : (StoreError → Type 0) → (StoreError → Type 0) → (KeeperError → Type 0) → JobEnd → Type 0
-IsCausedEnd a b k (Refused (Storage side error)) = AtSide side a b error
-IsCausedEnd a b k (Refused (Status error)) = k error
-IsCausedEnd a b k (Refused SameLocation) = ⊥
-IsCausedEnd a b k (Refused (SameIdent side ident first second)) = Unit {0}
-IsCausedEnd a b k (Refused (NotBuilt ident)) = Unit {0}
-IsCausedEnd a b k (NotCommitted error) = k error
-IsCausedEnd a b k Synced = Unit {0}
-IsCausedEnd a b k NoMemory = Unit {0}
+abbrev pub end_of_stop : Stop → JobEnd
+end_of_stop (stop.Unloaded error) = end_of_load error
+end_of_stop (stop.Unlisted side error) = end_of_reading side error
+end_of_stop (stop.Emptied side) = Refused (StorageEmpty side)
+end_of_stop (stop.Unfetched side error) = end_of_reading side error
+end_of_stop stop.NoMemory = NoMemory
 
--- of the other devices no error
-abbrev pub Never : {X : Type 0} → X → Type 0
-Never x = ⊥
+-- ---- after all steps: both flushes, then the status
 
-abbrev pub IsCausedWhat : (StoreError → Type 0) → (StoreError → Type 0) → What → Type 0
-IsCausedWhat a b (NotWritten side error) = AtSide side a b error
+-- both sides with what waits there when all steps are done, and the status, each with what it is at the end
+pub record Closing : Type 0 where
+  pub end_a : SideNow
+  pub exit_a : SideState
+  pub end_b : SideNow
+  pub exit_b : SideState
+  pub k : KeeperState
+  pub exit_k : KeeperState
 
--- the job was ended by the error of one call to a side
-abbrev pub IsEndOfSide : Side → (StoreError → Type 0) → JobEnd → Type 0
-IsEndOfSide side cause (Refused (Storage at error)) = (at ≡ side) × cause error
-IsEndOfSide side cause NoMemory = Unit {0}
-IsEndOfSide side cause (Refused (Status error)) = ⊥
-IsEndOfSide side cause (Refused SameLocation) = ⊥
-IsEndOfSide side cause (Refused (SameIdent at ident first second)) = ⊥
-IsEndOfSide side cause (Refused (NotBuilt ident)) = ⊥
-IsEndOfSide side cause (NotCommitted error) = ⊥
-IsEndOfSide side cause Synced = ⊥
+abbrev pub closing : SideNow → SideState → SideNow → SideState → KeeperState → KeeperState → Closing
+closing end_a exit_a end_b exit_b k exit_k = record { end_a = end_a; exit_a = exit_a; end_b = end_b; exit_b = exit_b; k = k; exit_k = exit_k }
 
-abbrev pub IsCausedLine : (StoreError → Type 0) → (StoreError → Type 0) → Option Line → Type 0
-IsCausedLine a b None = Unit {0}
-IsCausedLine a b (Some line) = IsCausedWhat a b line.what
+-- the ends by a flush and by a commit that answered the error
+abbrev pub end_of_flush : Side → StoreError → JobEnd
+end_of_flush side store.NoMemory = NoMemory
+end_of_flush side error = NotFlushed side error
 
-abbrev pub IsLineOfSide : Side → (StoreError → Type 0) → Option Line → Type 0
-IsLineOfSide side cause None = Unit {0}
-IsLineOfSide side cause (Some line) = IsCausedWhat (AtSide side cause Never) (AtSide side Never cause) line.what
+abbrev pub end_of_commit : KeeperError → JobEnd
+end_of_commit keeper.NoMemory = NoMemory
+end_of_commit error = NotCommitted error
 
--- an end after all steps
-abbrev pub IsFullEnd : JobEnd → Type 0
-IsFullEnd Synced = Unit {0}
-IsFullEnd (NotCommitted error) = Unit {0}
-IsFullEnd (Refused refusal) = ⊥
-IsFullEnd NoMemory = ⊥
+abbrev pub FlushFails : SideNow → SideState → StoreError → Type 0
+FlushFails end exit error = (left : List Change) × FlushAnswer end.state end.waiting exit left (Err error)
 
-abbrev pub IsRefused : JobEnd → Type 0
-IsRefused (Refused refusal) = Unit {0}
-IsRefused Synced = ⊥
-IsRefused (NotCommitted error) = ⊥
-IsRefused NoMemory = ⊥
+abbrev pub NotFlushedOn : Side → Closing → StoreError → Type 0
+NotFlushedOn A y error = FlushFails y.end_a y.exit_a error × (y.exit_b ≡ (y.end_b).state)
+NotFlushedOn B y error = AllFlushed y.end_a y.exit_a × FlushFails y.end_b y.exit_b error
 
--- an end that may come before the status is loaded
-abbrev pub IsUnloaded : JobEnd → Type 0
-IsUnloaded (Refused (Status error)) = Unit {0}
-IsUnloaded (Refused SameLocation) = ⊥
-IsUnloaded (Refused (Storage side error)) = ⊥
-IsUnloaded (Refused (SameIdent side ident first second)) = ⊥
-IsUnloaded (Refused (NotBuilt ident)) = ⊥
-IsUnloaded NoMemory = Unit {0}
-IsUnloaded Synced = ⊥
-IsUnloaded (NotCommitted error) = ⊥
+-- rows are committed exactly where they differ
+abbrev pub CommitsBy : Bool → Option (List ℕ) → KeeperState → KeeperState → List Row → JobEnd → Type 0
+CommitsBy false found k exit rows Synced = exit ≡ k
+CommitsBy true found k exit rows Synced = CommitAnswer found k exit rows (Ok tt)
+CommitsBy changed found k exit rows (NotCommitted error) = (changed ≡ true) × CommitAnswer found k exit rows (Err error)
+CommitsBy changed found k exit rows NoMemory = status.Evolves IsMaking k exit
+CommitsBy changed found k exit rows (Refused refusal) = ⊥
+CommitsBy changed found k exit rows (NotFlushed side error) = ⊥
 
--- a report has the lines of its steps where it ends after all of them, and else none
-abbrev pub LinesAt : JobEnd → List Line → List Line → Type 0
-LinesAt Synced lines done = lines ≡ done
-LinesAt (NotCommitted error) lines done = lines ≡ done
-LinesAt (Refused refusal) lines done = lines ≡ []
-LinesAt NoMemory lines done = lines ≡ []
+-- no status was written, and of each side all that waits acted, or nothing
+pub record BreaksAt (y : Closing) : Type 0 where
+  pub flush_a : IsFlushed y.end_a y.exit_a
+  pub flush_b : IsFlushed y.end_b y.exit_b
+  pub kept : status.Evolves IsMaking y.k y.exit_k
 
--- 1 where two sides are the same, and else 0
-abbrev pub same_side : Side → Side → ℕ
-same_side A A = 1
-same_side A B = 0
-same_side B A = 0
-same_side B B = 1
+-- side a is flushed, then side b, then rows that differ are committed; the first of these calls that fails is the last
+abbrev pub EndsBy : Bool → Option (List ℕ) → Closing → List Row → JobEnd → Type 0
+EndsBy changed found y rows Synced = AllFlushed y.end_a y.exit_a × AllFlushed y.end_b y.exit_b × CommitsBy changed found y.k y.exit_k rows Synced
+EndsBy changed found y rows (NotCommitted error) = AllFlushed y.end_a y.exit_a × AllFlushed y.end_b y.exit_b × CommitsBy changed found y.k y.exit_k rows (NotCommitted error)
+EndsBy changed found y rows (NotFlushed side error) = NotFlushedOn side y error × (y.exit_k ≡ y.k)
+EndsBy changed found y rows NoMemory = BreaksAt y
+EndsBy changed found y rows (Refused refusal) = ⊥
 
--- 1 where an error of this side is a fault of that one, and else 0
-abbrev pub fault_of : Side → Side → StoreError → ℕ
-fault_of side at store.Fault = same_side side at
-fault_of side at error = 0
+-- a run that ended otherwise than by want of memory: its lines, and whether its rows differ
+pub record Closes (x : Sources) (rows : List Row) (plan : List Planned) (os : Outcomes) (found : Option (List ℕ)) (y : Closing) (report : Report) (end : JobEnd) : Type 0 where
+  pub changed : Bool
+  pub same : changed ≡ false → IsUnchanged x rows plan os.put.items os.removed.items
+  pub differs : changed ≡ true → IsUnchanged x rows plan os.put.items os.removed.items → ⊥
+  pub lines : report.lines.items ≡ lines_of plan os.put.items os.removed.items
+  pub ends : EndsBy changed found y (rows_after x rows plan os.put.items os.removed.items) end
 
-abbrev pub fault_in : Side → What → ℕ
-fault_in side (NotWritten at error) = fault_of side at error
+abbrev pub ClosesAs : Sources → List Row → List Planned → Outcomes → Option (List ℕ) → Closing → Report → JobEnd → Type 0
+ClosesAs x rows plan os found y report Synced = Closes x rows plan os found y report Synced
+ClosesAs x rows plan os found y report (NotFlushed side error) = Closes x rows plan os found y report (NotFlushed side error)
+ClosesAs x rows plan os found y report (NotCommitted error) = Closes x rows plan os found y report (NotCommitted error)
+ClosesAs x rows plan os found y report NoMemory = BreaksAt y × (report.lines.items ≡ [])
+ClosesAs x rows plan os found y report (Refused refusal) = ⊥
 
-abbrev pub line_in : Side → What → ℕ
-line_in side (NotWritten at error) = same_side side at
+-- ---- a run that read
 
--- how many of the lines tell a fault of the side
-abbrev pub fault_lines : Side → List Line → ℕ
-fault_lines side [] = 0
-fault_lines side (line ∷ lines) = fault_in side line.what + fault_lines side lines
+-- what a run has when it has read, and both sides and the status then and at the end; and whether it knows each side then
+pub record Going : Type 0 where
+  pub known_a : Bool
+  pub known_b : Bool
+  pub r : ReadJob
+  pub k : KeeperState
+  pub exit_k : KeeperState
+  pub a : SideState
+  pub exit_a : SideState
+  pub b : SideState
+  pub exit_b : SideState
 
--- how many of the lines tell of a write to the side
-abbrev pub lines_of : Side → List Line → ℕ
-lines_of side [] = 0
-lines_of side (line ∷ lines) = line_in side line.what + lines_of side lines
+-- all steps have their outcomes
+pub record Finishes (rules : Rules) (waits_a waits_b : Bool) (y : Going) (report : Report) (end : JobEnd) : Type 0 where
+  pub plan : List Planned
+  pub is_plan : IsPlan y.r.a.seen.items y.r.b.seen.items y.r.rows.items rules plan
+  pub os : Outcomes
+  pub end_a : SideNow
+  pub end_b : SideNow
+  pub did_a : WritesDid waits_a A (sources y.r.a y.r.b) plan (now_of y.a []) end_a os
+  pub did_b : WritesDid waits_b B (sources y.r.a y.r.b) plan (now_of y.b []) end_b os
+  pub acts_a : ActsOrWaits waits_a y.a end_a.state
+  pub acts_b : ActsOrWaits waits_b y.b end_b.state
+  pub whole : IsWhole (sources y.r.a y.r.b) plan os
+  -- on a side that it knows a copy before which none has failed meets a taken name only where an edit from outside came
+  pub copies_a : y.known_a ≡ true → AllMoveByEdit A y.a end_a.state plan os.put.items
+  pub copies_b : y.known_b ≡ true → AllMoveByEdit B y.b end_b.state plan os.put.items
+  pub closes : Closes (sources y.r.a y.r.b) y.r.rows.items plan os (found_at y.k.stamp) (closing end_a y.exit_a end_b y.exit_b y.k y.exit_k) report end
 
--- 1 where the end tells a fault of the side, and else 0
-abbrev pub end_fault : Side → JobEnd → ℕ
-end_fault side (Refused (Storage at error)) = fault_of side at error
-end_fault side (Refused (Status error)) = 0
-end_fault side (Refused SameLocation) = 0
-end_fault side (Refused (SameIdent at ident first second)) = 0
-end_fault side (Refused (NotBuilt ident)) = 0
-end_fault side (NotCommitted error) = 0
-end_fault side Synced = 0
-end_fault side NoMemory = 0
+-- memory ran out among the steps or behind them; no status was written
+pub record BreaksOff (rules : Rules) (waits_a waits_b : Bool) (y : Going) : Type 0 where
+  pub plan : List Planned
+  pub is_plan : IsPlan y.r.a.seen.items y.r.b.seen.items y.r.rows.items rules plan
+  pub wrote_a : WroteOn waits_a A (sources y.r.a y.r.b) plan y.a y.exit_a
+  pub wrote_b : WroteOn waits_b B (sources y.r.a y.r.b) plan y.b y.exit_b
+  pub kept : status.Evolves IsMaking y.k y.exit_k
 
-abbrev pub keeper_fault : KeeperError → ℕ
-keeper_fault keeper.Fault = 1
-keeper_fault error = 0
+-- nothing happened any more
+abbrev pub IsStill : Going → Type 0
+IsStill y = (y.exit_k ≡ y.k) × (y.exit_a ≡ y.a) × (y.exit_b ≡ y.b)
 
--- 1 where the end tells a fault of the status, and else 0
-abbrev pub status_fault : JobEnd → ℕ
-status_fault (Refused (Status error)) = keeper_fault error
-status_fault (Refused (Storage at error)) = 0
-status_fault (Refused SameLocation) = 0
-status_fault (Refused (SameIdent at ident first second)) = 0
-status_fault (Refused (NotBuilt ident)) = 0
-status_fault (NotCommitted error) = keeper_fault error
-status_fault Synced = 0
-status_fault NoMemory = 0
+-- the end of a run that has no plan
+abbrev pub end_of_plan : PlanError → JobEnd
+end_of_plan (plan_error.SameIdent side ident first second) = Refused (SameIdent side ident first second)
+end_of_plan plan_error.NoMemory = NoMemory
 
--- how many faults of the side a report tells
-abbrev pub faults_told : Side → JobEnd → List Line → ℕ
-faults_told side end lines = end_fault side end + fault_lines side lines
+-- there is no plan, since two items of a side have one ident
+abbrev pub IsTwinned : Going → Refusal → Type 0
+IsTwinned y (SameIdent side ident first second) = IsPlanRefusal y.r.a.seen.items y.r.b.seen.items (plan_error.SameIdent side ident first second) × IsStill y
+IsTwinned y SameLocation = ⊥
+IsTwinned y (Status error) = ⊥
+IsTwinned y (Storage side error) = ⊥
+IsTwinned y (StorageEmpty side) = ⊥
 
--- the count has risen by so many at least, or it stands at the last value of a u64
-abbrev pub RoseBy : ℕ → ℕ → ℕ → Type 0
-RoseBy before n now = min (before + n) (2 ^ 64 - 1) ≤ now
+abbrev pub GoesOn : Rules → Bool → Bool → Going → Report → JobEnd → Type 0
+GoesOn rules waits_a waits_b y report (Refused refusal) = IsTwinned y refusal × (report.lines.items ≡ [])
+GoesOn rules waits_a waits_b y report NoMemory = (IsStill y ⊎ BreaksOff rules waits_a waits_b y) × (report.lines.items ≡ [])
+GoesOn rules waits_a waits_b y report Synced = Finishes rules waits_a waits_b y report Synced
+GoesOn rules waits_a waits_b y report (NotFlushed side error) = Finishes rules waits_a waits_b y report (NotFlushed side error)
+GoesOn rules waits_a waits_b y report (NotCommitted error) = Finishes rules waits_a waits_b y report (NotCommitted error)
+
+-- ---- the whole run
+
+-- it stopped while it read
+pub record Stops (force : Bool) (x : Span) (report : Report) : Type 0 where
+  pub why : Stop
+  pub stops : IsStop force x why
+  pub end : report.end ≡ end_of_stop why
+  pub lines : report.lines.items ≡ []
+
+abbrev pub going : Bool → Bool → ReadJob → KeeperState → KeeperState → SideState → SideState → SideState → SideState → Going
+going known_a known_b r k exit_k a exit_a b exit_b = record { known_a = known_a; known_b = known_b; r = r; k = k; exit_k = exit_k; a = a; exit_a = exit_a; b = b; exit_b = exit_b }
+
+-- it read, and went on
+pub record RunsOn (force : Bool) (rules : Rules) (waits_a waits_b : Bool) (x : Span) (report : Report) : Type 0 where
+  pub r : ReadJob
+  pub k : KeeperState
+  pub a : SideState
+  pub b : SideState
+  pub read : IsRead force (span x.k k x.a a x.b b) r
+  -- each side is known then, or an edit from outside came
+  pub known_a : Bool
+  pub known_b : Bool
+  pub knows_a : WasEdited x.a a ⊎ (known_a ≡ true)
+  pub knows_b : WasEdited x.b b ⊎ (known_b ≡ true)
+  pub goes_on : GoesOn rules waits_a waits_b (going known_a known_b r k x.k_now a x.a_now b x.b_now) report report.end
+
+abbrev pub IsJob : Bool → Rules → Bool → Bool → Span → Report → Type 0
+IsJob force rules waits_a waits_b x report = Stops force x report ⊎ RunsOn force rules waits_a waits_b x report
+
+-- ---- what the laws speak of
+
+-- the status at the end: no rows were committed and it is as it was loaded, but for edits from outside; or these rows were committed, to what was loaded
+abbrev pub KeepsRows : KeeperState → KeeperState → List Row → List Row → Type 0
+KeepsRows k exit before after = ((after ≡ before) × status.Evolves IsMaking k exit) ⊎ AfterPlacing (found_at k.stamp) k (Commits (found_at k.stamp) after exit)
+
+-- a run that read did a job, and the status keeps the rows that the job came to
+pub record JobRun (force : Bool) (rules : Rules) (x : Span) : Type 0 where
+  pub k : KeeperState
+  pub a : SideState
+  pub b : SideState
+  pub r : ReadJob
+  pub read : IsRead force (span x.k k x.a a x.b b) r
+  pub after : List Row
+  pub job : JobOf rules (course_of_a (span x.k k x.a a x.b b) r x.a_now) (course_of_b (span x.k k x.a a x.b b) r x.b_now) r.rows.items after
+  pub keeps : KeepsRows k x.k_now r.rows.items after

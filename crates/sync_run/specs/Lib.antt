@@ -1,6 +1,7 @@
+pub mod Lines
 pub mod Ends
-pub mod Reads
-pub mod Steps
-pub mod Plans
-pub mod Jobs
+pub mod Whole
 pub mod Ready
+pub mod Promise
+pub mod Settled
+pub mod Quiet

@@ -1,85 +1,80 @@
--- When a job is ready, when its run is quiet, and what a clean run of it leaves (this project's own).
-use Rattle.std.specs.Prelude.{◌≡◌, ◌≤◌, ℕ, Bool, true, List, [], Option, Some, None, length, map, option_map, Ok}
+-- A job that is ready, and what a run of it that nothing disturbs leaves (this project's own).
+use Rattle.std.specs.Prelude.{◌≡◌, ◌⊎◌, ◌↔◌, ◌<◌, ◌≤◌, ℕ, Bool, true, List, Some, None, length, map, Ok}
 use Rattle.std.specs.List.{list_all}
 use Rattle.std.specs.FinMap as fin
 use Rattle.item_text.specs.Items.{ItemValue, item_of}
 use Rattle.store_model.specs.declared.event.Held.{Held}
-use Rattle.store_model.specs.declared.event.StoreEvent.{StoreEvent}
-use Rattle.store_model.specs.declared.event.StoreEvent.TheVariants.{Edited, Toggled, Wrote, Read}
-use Rattle.store_model.specs.Sides.{SideState, Evolves, HoldsAt, HasNone}
+use Rattle.store_model.specs.Sides.{SideState, HoldsAt}
 use Rattle.store_model.specs.StoreCalls.{entry_of, is_short}
 use Rattle.status_keeper.specs.declared.row.Row.{Row}
+use Rattle.status_keeper.specs.declared.keeper.KeeperError.TheVariants.{TooLong}
+use Rattle.status_keeper.specs.Idents.{IsRising}
+use Rattle.status_keeper.specs.Kept.{KeeperState, IsEdit}
 use Rattle.status_keeper.specs.Kept as status
-use Rattle.status_keeper.specs.Rows.{row_of}
 use Rattle.status_keeper.specs.Status.{max_status, text_of}
-use Rattle.sync_plan.specs.Table.{Versions, Due, Gone, At, Unsettled, table, is_built}
+use Rattle.sync_plan.specs.declared.report.Side.{Side}
 use Rattle.sync_plan.specs.declared.report.Side.TheVariants.{A, B}
-use Rattle.sync_plan.specs.declared.report.Line.{Line}
-use Rattle.sync_plan.specs.declared.report.JobEnd.{JobEnd}
-use Rattle.sync_plan.specs.declared.report.JobEnd.TheVariants.{Synced}
-use Rattle.sync_run.specs.Ends.{faults_told, status_fault}
-use Rattle.sync_run.specs.Jobs.{StandsAt, Holds}
+use Rattle.sync_plan.specs.declared.rules.Rules.{Rules}
+use Rattle.sync_plan.specs.declared.dues.Step.TheVariants as step
+use Rattle.sync_plan.specs.Verdicts.{step_of}
+use Rattle.sync_plan.specs.JobSteps.{clean_of}
+use Rattle.side_views.specs.Views.{IsProperAt}
+use Rattle.job_runs.specs.Courses.{Course}
+use Rattle.job_runs.specs.Jobs.{state_of, IsHonest, JobOf}
+use Rattle.job_reads.specs.Readings.{Span, span, IsRead, emptied_side, course_of_a, course_of_b}
+use Rattle.job_reads.specs.declared.reading.ReadJob.{ReadJob}
+use Rattle.sync_plan.specs.declared.report.JobEnd.TheVariants.{Synced, NotCommitted, NoMemory}
+use Rattle.sync_plan.specs.declared.report.Report.{Report}
+use Rattle.sync_run.specs.Quiet.{AreConflicts}
+use Rattle.sync_run.specs.Settled.{IsTold, IsLeft}
 
--- the side holds this version of the ident, or none of it
-abbrev pub IsAt : List ℕ → SideState → Option (List ℕ) → Type 0
-IsAt ident m None = HasNone ident m
-IsAt ident m (Some version) = Holds ident version m
-
--- the version that rows hold of an ident
-abbrev pub held_by : List ℕ → List Row → Option (List ℕ)
-held_by ident rows = option_map (λ r. (r.fp).0) (row_of ident rows)
-
--- these versions of the ident stand on the sides and in the status
-pub record Stand (ident : List ℕ) (a b : SideState) (rows : List Row) (v : Versions) : Type 0 where
-  pub of_a : IsAt ident a v.a
-  pub of_b : IsAt ident b v.b
-  pub of_row : v.s ≡ held_by ident rows
-
--- a side is there, within the limits of a listing, and proper: each text is an item's, and the idents differ
+-- a side is there, within the limits of a listing, and proper: each text is an item's, and each ident stands at one href at most
 pub record IsReadySide (m : SideState) : Type 0 where
   pub there : m.is_there ≡ true
   pub few : length (fin.entries m.content) ≤ 100000
   pub short : list_all is_short (map entry_of (fin.entries m.content)) ≡ true
   pub items : (href : List ℕ) (held : Held) → HoldsAt href held m → (item : ItemValue) × (item_of held.text ≡ Some item)
-  pub idents : (ident x y : List ℕ) → StandsAt ident x m → StandsAt ident y m → x ≡ y
+  pub proper : (ident : List ℕ) → IsProperAt ident m
 
--- a job is ready: both sides are, the status is of its form, and each ident's step is built
-pub record IsReadyJob (a b : SideState) (k : status.KeeperState) (rows : List Row) : Type 0 where
-  pub side_a : IsReadySide a
-  pub side_b : IsReadySide b
-  pub kept : k.kept ≡ Ok rows
-  pub built : (ident : List ℕ) (v : Versions) → Stand ident a b rows v → is_built v ≡ true
+-- a side from its entry to its exit, with the rows of the status; what it is when the run has read plays no part
+abbrev pub course_on : Side → List Row → SideState → SideState → Course
+course_on side rows entry exit = record { side = side; rows = rows; entry = entry; read = entry; exit = exit }
 
--- an own write or a read: no edit from outside
-abbrev pub IsOwn : StoreEvent → Type 0
-IsOwn (Edited href old new) = ⊥
-IsOwn Toggled = ⊥
-IsOwn (Wrote href old new sent) = Unit {0}
-IsOwn (Read href text) = Unit {0}
+-- both sides are ready, the status has these rows, none of the sides came to be empty, etags tell texts apart, and the rows are true
+pub record IsReady (force : Bool) (x : Span) (rows : List Row) : Type 0 where
+  pub side_a : IsReadySide x.a
+  pub side_b : IsReadySide x.b
+  pub kept : (x.k).kept ≡ Ok rows
+  pub full : emptied_side force rows (map entry_of (fin.entries (x.a).content)) (map entry_of (fin.entries (x.b).content)) ≡ None
+  pub honest_a : IsHonest (course_on A rows x.a x.a_now)
+  pub honest_b : IsHonest (course_on B rows x.b x.b_now)
 
--- a run is quiet: no edit from outside came, and the report tells no fault
-pub record IsQuiet (a a' b b' : SideState) (k k' : status.KeeperState) (end : JobEnd) (lines : List Line) : Type 0 where
-  pub side_a : Evolves IsOwn a a'
-  pub side_b : Evolves IsOwn b b'
-  pub status : status.Evolves status.IsOwn k k'
-  pub faults_a : faults_told A end lines ≡ 0
-  pub faults_b : faults_told B end lines ≡ 0
-  pub faults_k : status_fault end ≡ 0
-
--- the text of these rows is within the limit of a status
-abbrev pub FitsStatus : List Row → Type 0
-FitsStatus rows = length (text_of rows) ≤ max_status
-
--- both sides and the rows hold what the ident is due
-abbrev pub HoldDue : List ℕ → Due → SideState → SideState → List Row → Type 0
-HoldDue ident Gone a b rows = HasNone ident a × HasNone ident b × (row_of ident rows ≡ None)
-HoldDue ident (At version) a b rows = Holds ident version a × Holds ident version b × (held_by ident rows ≡ Some version)
-HoldDue ident Unsettled a b rows = ⊥
-
--- a clean run: in sync without lines, and each ident at its due
-pub record IsClean (a a' b b' : SideState) (before : List Row) (k' : status.KeeperState) (end : JobEnd) (lines : List Line) : Type 0 where
-  pub synced : end ≡ Synced
-  pub no_lines : lines ≡ []
+-- in sync: the lines are the conflicts that no rule settles, each ident's once, in the order of idents; both sides and the status
+-- have all else that each ident is due; and what no run does yet is as it was
+pub record EndsClean (rules : Rules) (x : Span) (rows : List Row) (report : Report) : Type 0 where
+  pub synced : report.end ≡ Synced
+  pub conflicts : AreConflicts report.lines.items
+  pub rising : IsRising (map (λ line. line.ident) report.lines.items)
+  pub told : (ident : List ℕ) → IsTold ident report.lines.items ↔ (step_of rules (state_of x.a x.b rows ident) ≡ step.Conflict)
   pub after : List Row
-  pub kept : k'.kept ≡ Ok after
-  pub at_due : (ident : List ℕ) (v : Versions) → Stand ident a b before v → HoldDue ident (table v).due a' b' after
+  pub kept : (x.k_now).kept ≡ Ok after
+  pub each : (ident : List ℕ) → (IsLeft (step_of rules (state_of x.a x.b rows ident)) → ⊥) → state_of x.a_now x.b_now after ident ≡ clean_of rules None (state_of x.a x.b rows ident)
+  pub left : (ident : List ℕ) → IsLeft (step_of rules (state_of x.a x.b rows ident)) → state_of x.a_now x.b_now after ident ≡ state_of x.a x.b rows ident
+
+-- a clean run, but where memory runs out or the text of the rows passes the limit of a status
+abbrev pub EndsReady : Rules → Span → List Row → Report → Type 0
+EndsReady rules x rows report = (report.end ≡ NoMemory) ⊎ (report.end ≡ NotCommitted TooLong) ⊎ EndsClean rules x rows report
+
+-- ---- rows whose text is too long
+
+-- the run did a job on both sides, whose rows' text passes the limit of a status, and none were written
+pub record ComesTooLong (force : Bool) (rules : Rules) (x : Span) : Type 0 where
+  pub k : KeeperState
+  pub a : SideState
+  pub b : SideState
+  pub r : ReadJob
+  pub read : IsRead force (span x.k k x.a a x.b b) r
+  pub after : List Row
+  pub job : JobOf rules (course_of_a (span x.k k x.a a x.b b) r x.a_now) (course_of_b (span x.k k x.a a x.b b) r x.b_now) r.rows.items after
+  pub unwritten : status.Evolves IsEdit k x.k_now
+  pub too_long : max_status < length (text_of after)

@@ -1,14 +1,14 @@
-//! One job: brings two stores together.
+//! One run of one job from its first call to its last, and how it ends.
 #![tactic(auto)]
 
-mod copying;
+mod ending;
 mod job;
 mod laws;
-mod planning;
-mod reading;
+mod lines;
 
-pub use job::sync_collection;
+pub use job::{SyncOrder, sync_collection};
 pub use laws::{
-    commits_are_due, quiet_runs_complete, refused_changes_nothing, rows_are_by_step, rows_are_held,
-    writes_are_due,
+    ends_are_runs, promises_are_kept, quiet_runs_end_well, quiet_runs_tell_conflicts,
+    ready_runs_end_clean, refusals_change_nothing, synced_or_told, too_long_is_so,
+    untold_is_at_its_due,
 };

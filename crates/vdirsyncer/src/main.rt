@@ -3,7 +3,7 @@
 
 use outside::{NoMemory, RealOutfit, StdSink, StdSource};
 use std::alloc::Global;
-use std::env;
+use std::env::{self, VarError};
 use std::io::ErrorKind;
 use std::process::ExitCode;
 use values::Text;
@@ -27,25 +27,34 @@ fn words_of(rt: &HostRuntime, alloc: Global) -> Result<Vec<Text>, NoMemory> {
 }
 
 /// A variable of the environment; none where it isn't set or isn't UTF-8.
-fn variable(rt: &HostRuntime, name: &str) -> Option<Text> {
+fn variable(rt: &HostRuntime, name: &str) -> Result<Option<Text>, NoMemory> {
     match env::var(rt, name) {
-        Ok(value) => Some(Text::of(value)),
-        Err(_) => None,
+        Ok(value) => Ok(Some(Text::of(value))),
+        Err(VarError::OutOfMemory) => Err(NoMemory),
+        Err(_) => Ok(None),
     }
+}
+
+/// What the environment says.
+fn environment_of(rt: &HostRuntime) -> Result<Env, NoMemory> {
+    Ok(Env {
+        home: variable(rt, "HOME")?,
+        xdg_config: variable(rt, "XDG_CONFIG_HOME")?,
+        vdirsyncer_config: variable(rt, "VDIRSYNCER_CONFIG")?,
+    })
 }
 
 fn main(rt: HostRuntime) -> ExitCode {
     let alloc = rt.alloc();
-    let environment = Env {
-        home: variable(&rt, "HOME"),
-        xdg_config: variable(&rt, "XDG_CONFIG_HOME"),
-        vdirsyncer_config: variable(&rt, "VDIRSYNCER_CONFIG"),
-    };
     let mut input = StdSource::new(rt.stdin());
     let mut out = StdSink::new(rt.stdout());
     let mut err = StdSink::new(rt.stderr());
     let words = match words_of(&rt, alloc) {
         Ok(words) => words,
+        Err(NoMemory) => return ExitCode::from(OUT_OF_MEMORY),
+    };
+    let environment = match environment_of(&rt) {
+        Ok(environment) => environment,
         Err(NoMemory) => return ExitCode::from(OUT_OF_MEMORY),
     };
     let mut outfit = match rt.clone() {

@@ -11,35 +11,30 @@ use Rattle.vdirsyncer_cli.specs.declared.asked.Asked.TheVariants.{Wrong, Help, R
 use Rattle.vdirsyncer_cli.specs.declared.asked.Wanted.{Wanted}
 use Rattle.vdirsyncer_cli.specs.declared.file_error.FileError.{FileError}
 use Rattle.vdirsyncer_cli.specs.declared.file_error.FileError.TheVariants as file_error
-use Rattle.vdirsyncer_cli.specs.declared.job.Cut.{Cut}
-use Rattle.vdirsyncer_cli.specs.declared.job.Cut.TheVariants.{Whole, Starved}
+use Rattle.vdirsyncer_cli.specs.declared.printing.Cut.{Cut}
+use Rattle.vdirsyncer_cli.specs.declared.printing.Cut.TheVariants.{Whole, Starved}
 use Rattle.vdirsyncer_cli.specs.declared.job.Job.{Job}
 use Rattle.vdirsyncer_cli.specs.Printing.{Prints}
 use Rattle.vdirsyncer_cli.specs.Places.{Places}
 use Rattle.vdirsyncer_cli.specs.Files.{folder_of, name_of, file_text}
 use Rattle.vdirsyncer_cli.specs.ConfigRead.{FileRead}
-use Rattle.vdirsyncer_cli.specs.Jobs.{IsTold, JobAt}
-use Rattle.vdirsyncer_cli.specs.Runs.{job_of, memory_line, comes_to, WordsRun, Refuses, Finishes, TellsStarved, cut_status}
+use Rattle.vdirsyncer_cli.specs.Jobs.{three_of, JobAt}
+use Rattle.vdirsyncer_cli.specs.Runs.{job_to_run, memory_line, comes_to, WordsRun, Refuses, Finishes, TellsStarved, cut_status}
 use Rattle.cli_words.specs.Usage.{usage}
 use Rattle.vdirsyncer_cli.specs.Runs.Ended.{WrongWords, HelpAsked, WordsRefused, FileRefused, ConfigRefused, NothingChosen, OutOfMemory, JobEnded}
 use Rattle.vdirsyncer_cli.proofs.PlaceLaws.{same_places}
-use Rattle.vdirsyncer_cli.proofs.JobLaws.{step_told}
+use Rattle.vdirsyncer_cli.proofs.JobLaws.{run_told}
 
 -- a sink that wasn't used
 pub silent : {S : Type 0} (count : S → ℕ) (tells : S → Type 0) (held : S → List ℕ) (s : S) → Prints count tells held s s [] Whole
 silent count tells held s = (omega arith, λ told. (told, sym (append-nil (held s))))
-
-told_more : (t0 t1 : List ℕ → Type 0) (job : Job) → StayTold t0 t1 → IsTold t0 job → IsTold t1 job
-told_more t0 t1 job stay told = record { speaks_a = told.speaks_a; speaks_b = told.speaks_b; tells_a = stay job.a told.tells_a; tells_b = stay job.b told.tells_b; tells_s = stay job.status told.tells_s }
 
 -- a job of which less was told at entry
 pub job_told : (old new : Places) (t0 t1 t2 : List ℕ → Type 0) (job : Job) (report : Report) → StayTold t0 t1 → JobAt old new t1 t2 job report → JobAt old new t0 t2 job report
 job_told old new t0 t1 t2 job report stay (inl ran) =
     inl (record {
       apart = ran.apart;
-      step = step_told _ _ _ _ _ _ _ _ _ _ _ _ _ _ _ _ _ _ _ _ report (stay job.a) (λ x. x) (stay job.b) (λ x. x) (stay job.status) (λ x. x) ran.step;
-      rows = λ told rows kept own. ran.rows (told_more t0 t1 job stay told) rows kept own;
-      complete = λ told rows ready quiet fits. ran.complete (told_more t0 t1 job stay told) rows ready quiet fits;
+      step = run_told job.order job.ending_a job.ending_b (three_of old job) (three_of new job) _ _ _ _ _ _ _ _ _ _ _ _ report (stay job.a) (λ x. x) (stay job.b) (λ x. x) (stay job.status) (λ x. x) ran.step;
       others = ran.others;
       others_tell = λ q x y z told. ran.others_tell q x y z (stay q told);
     })
@@ -78,9 +73,9 @@ unopened_run old between new t t1 t' wanted answer PrintsOut PrintsErr result re
     let read' : Read old new t wanted answer = subst (λ (p : Places). Read old p t wanted answer) (sym (same_places between new same)) read in
     starved_run old new t t' wanted answer PrintsOut PrintsErr result read' (λ q told. stay' q (stay q told)) quiet tells
 
-pub job_run : (old between new : Places) (t t1 t' : List ℕ → Type 0) (wanted : Wanted) (bytes : List ℕ) (named : SyncJob) (job : Job) (report : Report) (PrintsOut PrintsErr : List ℕ → Cut → Type 0) (result : ℕ) → Read old between t wanted (Ok bytes) → StayTold t t1 → comes_to wanted bytes ≡ Ok (Some named) → job ≡ job_of named → JobAt between new t1 t' job report → Finishes named.pair report PrintsOut PrintsErr result → WordsRun old new t t' (Run wanted) PrintsOut PrintsErr result
+pub job_run : (old between new : Places) (t t1 t' : List ℕ → Type 0) (wanted : Wanted) (bytes : List ℕ) (named : SyncJob) (job : Job) (report : Report) (PrintsOut PrintsErr : List ℕ → Cut → Type 0) (result : ℕ) → Read old between t wanted (Ok bytes) → StayTold t t1 → comes_to wanted bytes ≡ Ok (Some named) → job ≡ job_to_run wanted.force_delete named → JobAt between new t1 t' job report → Finishes named.pair report PrintsOut PrintsErr result → WordsRun old new t t' (Run wanted) PrintsOut PrintsErr result
 job_run old between new t t1 t' wanted bytes named job report PrintsOut PrintsErr result read stay comes is ran finishes =
-    let at : JobAt between new t t' (job_of named) report = subst (λ (j : Job). JobAt between new t t' j report) is (job_told between new t t1 t' job report stay ran) in
+    let at : JobAt between new t t' (job_to_run wanted.force_delete named) report = subst (λ (j : Job). JobAt between new t t' j report) is (job_told between new t t1 t' job report stay ran) in
     record { ended = JobEnded wanted named report; out_cut = finishes.out_cut; err_cut = finishes.err_cut; did = (between, record { bytes = bytes; reads = record { is_asked = refl; read = read }; comes = comes }, at); printed = finishes.printed; told = finishes.told; not_starved = finishes.not_starved; status = finishes.status }
 
 -- a want of memory before anything was opened

@@ -1,5 +1,5 @@
 -- What the words and the environment ask for (this project's own).
-use Rattle.std.specs.Prelude.{ℕ, List, ◌++◌, codes, Option, Some, None, option_map}
+use Rattle.std.specs.Prelude.{ℕ, Bool, List, ◌++◌, codes, Option, Some, None, option_map}
 use Rattle.std.specs.Option.{option_or}
 use Rattle.cli_words.specs.declared.words.Name.{Name}
 use Rattle.cli_words.specs.Words.{WordsValue, OrderValue}
@@ -20,14 +20,14 @@ usual_file env = option_or env.vdirsyncer_config (option_or (below env.xdg_confi
 abbrev pub config_file : Option (List ℕ) → Env → Option (List ℕ)
 config_file config env = option_or config (usual_file env)
 
-abbrev pub run_by : List Name → Option (List ℕ) → Option (List ℕ) → Asked
-run_by names home None = Refused (codes "config: no path\n")
-run_by names home (Some file) = Run (record { file = file; names = names; home = home })
+abbrev pub run_by : Bool → List Name → Option (List ℕ) → Option (List ℕ) → Asked
+run_by force_delete names home None = Refused (codes "config: no path\n")
+run_by force_delete names home (Some file) = Run (record { file = file; names = names; home = home; force_delete = force_delete })
 
 -- of the commands `sync` alone is built
 abbrev pub ordered : Env → Option (List ℕ) → OrderValue → Asked
 ordered env config help = Help
-ordered env config (sync force_delete workers names) = run_by names env.home (config_file config env)
+ordered env config (sync force_delete workers names) = run_by force_delete names env.home (config_file config env)
 ordered env config (metasync names) = Refused (codes "metasync is not built\n")
 ordered env config (discover list pairs) = Refused (codes "discover is not built\n")
 ordered env config (repair unsafe_too name) = Refused (codes "repair is not built\n")

@@ -2,8 +2,8 @@
 use Rattle.std.specs.Prelude.{◌≡◌, ◌≤◌, ℕ, List, ◌++◌}
 use Rattle.outside.specs.Causes.{Rose}
 use Rattle.outside.specs.StreamCalls.{AddsFront}
-use Rattle.vdirsyncer_cli.specs.declared.job.Cut.{Cut}
-use Rattle.vdirsyncer_cli.specs.declared.job.Cut.TheVariants.{Whole, WriteFault, Starved}
+use Rattle.vdirsyncer_cli.specs.declared.printing.Cut.{Cut}
+use Rattle.vdirsyncer_cli.specs.declared.printing.Cut.TheVariants.{Whole, WriteFault, Starved}
 
 -- where the sink told what it holds it tells it still, and that is changed so
 abbrev pub Holds : {S : Type 0} → (S → Type 0) → (S → List ℕ) → S → S → (List ℕ → List ℕ → Type 0) → Type 0

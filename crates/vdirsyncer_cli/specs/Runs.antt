@@ -1,11 +1,11 @@
 -- What a run of the program does: its places, what it prints, and its status (this project's own).
-use Rattle.std.specs.Prelude.{◌≡◌, ◌≢◌, ◌⊎◌, ℕ, true, false, List, [], ◌∷◌, Option, Some, None, Result, Ok, Err, codes}
+use Rattle.std.specs.Prelude.{◌≡◌, ◌≢◌, ◌⊎◌, ℕ, Bool, true, false, List, [], ◌∷◌, Option, Some, None, Result, Ok, Err, codes}
 use Rattle.outside.specs.Places.{IsSame, StayTold}
 use Rattle.sync_plan.specs.declared.report.Report.{Report}
 use Rattle.cli_jobs.specs.declared.job.SyncJob.{SyncJob}
 use Rattle.cli_jobs.specs.declared.refusal.Refusal.{Refusal}
 use Rattle.cli_jobs.specs.declared.refusal.Refusal.TheVariants as refusal
-use Rattle.cli_jobs.specs.Jobs.{job_of as job_in}
+use Rattle.cli_jobs.specs.Jobs.{job_of}
 use Rattle.cli_jobs.specs.Texts.{refusal_text}
 use Rattle.cli_text.specs.Texts.{report_text}
 use Rattle.cli_text.specs.Exits.{exit_status}
@@ -15,8 +15,8 @@ use Rattle.vdirsyncer_cli.specs.declared.asked.Asked.TheVariants as asked
 use Rattle.vdirsyncer_cli.specs.declared.asked.Wanted.{Wanted}
 use Rattle.vdirsyncer_cli.specs.declared.file_error.FileError.{FileError}
 use Rattle.vdirsyncer_cli.specs.declared.file_error.FileError.TheVariants as file_error
-use Rattle.vdirsyncer_cli.specs.declared.job.Cut.{Cut}
-use Rattle.vdirsyncer_cli.specs.declared.job.Cut.TheVariants.{Whole, WriteFault, Starved}
+use Rattle.vdirsyncer_cli.specs.declared.printing.Cut.{Cut}
+use Rattle.vdirsyncer_cli.specs.declared.printing.Cut.TheVariants.{Whole, WriteFault, Starved}
 use Rattle.vdirsyncer_cli.specs.declared.job.Job.{Job}
 use Rattle.vdirsyncer_cli.specs.Files.{folder_of, name_of, file_text}
 use Rattle.vdirsyncer_cli.specs.Places.{Places}
@@ -35,13 +35,13 @@ pub data Ended : Type 0 where
   OutOfMemory : Ended
   JobEnded : Wanted → SyncJob → Report → Ended
 
--- the places of a job
-abbrev pub job_of : SyncJob → Job
-job_of j = record { a = j.a; b = j.b; status = j.status; ending_a = j.ending_a; ending_b = j.ending_b }
+-- the job that is run, by whether a side that came to be empty is taken as it is
+abbrev pub job_to_run : Bool → SyncJob → Job
+job_to_run force_delete j = record { a = j.a; b = j.b; status = j.status; ending_a = j.ending_a; ending_b = j.ending_b; order = record { rules = j.rules; force_delete = force_delete } }
 
 -- what a configuration of these bytes comes to, for what is wanted
 abbrev pub comes_to : Wanted → List ℕ → Result (Option SyncJob) Refusal
-comes_to wanted bytes = job_in wanted.names wanted.home bytes
+comes_to wanted bytes = job_of wanted.names wanted.home bytes
 
 -- the file of the configuration, as it is asked for, was read with this answer
 pub record ReadsFile (old between : Places) (tells : List ℕ → Type 0) (what : Asked) (wanted : Wanted) (answer : Result (List ℕ) FileError) : Type 0 where
@@ -67,7 +67,7 @@ Did old new tells tells' what (FileRefused wanted e) = ReadsFile old new tells w
 Did old new tells tells' what (ConfigRefused wanted r) = ComesTo old new tells what wanted (Err r) × (r ≢ refusal.NoMemory) × StayTold tells tells'
 Did old new tells tells' what (NothingChosen wanted) = ComesTo old new tells what wanted (Ok None) × StayTold tells tells'
 Did old new tells tells' what OutOfMemory = ReadsOrNot old new tells what × StayTold tells tells'
-Did old new tells tells' what (JobEnded wanted job report) = (between : Places) × ComesTo old between tells what wanted (Ok (Some job)) × JobAt between new tells tells' (job_of job) report
+Did old new tells tells' what (JobEnded wanted job report) = (between : Places) × ComesTo old between tells what wanted (Ok (Some job)) × JobAt between new tells tells' (job_to_run wanted.force_delete job) report
 
 -- what is printed on the sink for output
 abbrev pub out_text : Ended → List ℕ

@@ -20,6 +20,8 @@ pub struct Wanted {
     pub names: Sequence<Name>,
     /// The home folder of the user.
     pub home: Option<Text>,
+    /// A side that came to be empty is taken as it is.
+    pub force_delete: bool,
 }
 
 /// What is asked for.
@@ -94,8 +96,9 @@ fn run(
     env: &Env,
     config: Option<Text>,
     names: Vec<Name>,
+    force_delete: bool,
 ) -> Result<Asked, AllocError>
-    ensures { IfOk result (λ asked. asked ≡ spec.run_by names.items env.now.home (spec.config_file config env.now)) }
+    ensures { IfOk result (λ asked. asked ≡ spec.run_by force_delete names.items env.now.home (spec.config_file config env.now)) }
 {
     match config_file(alloc, config, env)? {
         None => refused(alloc, "config: no path\n"),
@@ -103,6 +106,7 @@ fn run(
             file,
             names: Sequence::of(names),
             home: copied(alloc, &env.home)?,
+            force_delete,
         })),
     }
 }
@@ -117,7 +121,11 @@ fn ordered(
 {
     match order {
         Order::Help => Ok(Asked::Help),
-        Order::Sync { names, .. } => run(alloc, env, config, names),
+        Order::Sync {
+            names,
+            force_delete,
+            ..
+        } => run(alloc, env, config, names, force_delete),
         Order::Metasync { .. } => refused(alloc, "metasync is not built\n"),
         Order::Discover { .. } => refused(alloc, "discover is not built\n"),
         Order::Repair { .. } => refused(alloc, "repair is not built\n"),

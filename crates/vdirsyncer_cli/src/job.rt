@@ -1,8 +1,9 @@
-//! A job, as the configuration names it.
+//! A job, as it is run.
 
+use sync_run::SyncOrder;
 use values::Text;
 
-/// A job: its three places, and the endings of its items' files.
+/// A job: its three places, the endings of its items' files, and how it is to be run.
 #[derive(Debug, Drop)]
 pub struct Job {
     /// The folder of side a, normalised.
@@ -13,14 +14,6 @@ pub struct Job {
     pub status: Text,
     pub ending_a: Text,
     pub ending_b: Text,
-}
-
-/// Whether a text was printed whole.
-#[derive(Clone, Copy, Debug, PartialEq, Eq)]
-pub enum Cut {
-    Whole,
-    /// The sink failed: a front of the text was written, and nothing more is.
-    WriteFault,
-    /// Memory ran out before the text was made.
-    Starved,
+    /// How it is to be run.
+    pub order: SyncOrder,
 }

@@ -1,15 +1,16 @@
-//! The places of a job.
+//! The job that is run.
 
 ghost use Rattle.std.specs.Prelude.{◌≡◌};
-ghost use Rattle.vdirsyncer_cli.specs.Runs.{job_of};
+ghost use Rattle.vdirsyncer_cli.specs.Runs.{job_to_run};
 
 use crate::job::Job;
 use cli_jobs::SyncJob;
+use sync_run::SyncOrder;
 use values::Text;
 
-/// A job's pair, and its places.
-pub fn places_of(job: SyncJob) -> (Text, Job)
-    ensures { result ≡ (job.pair, job_of job) }
+/// A job's pair, and its places with the order in which it is run.
+pub fn job_to_run(job: SyncJob, force_delete: bool) -> (Text, Job)
+    ensures { result ≡ (job.pair, job_to_run force_delete job) }
 {
     let SyncJob {
         pair,
@@ -18,6 +19,7 @@ pub fn places_of(job: SyncJob) -> (Text, Job)
         status,
         ending_a,
         ending_b,
+        rules,
     } = job;
     let job = Job {
         a,
@@ -25,6 +27,10 @@ pub fn places_of(job: SyncJob) -> (Text, Job)
         status,
         ending_a,
         ending_b,
+        order: SyncOrder {
+            rules,
+            force_delete,
+        },
     };
     (pair, job)
 }

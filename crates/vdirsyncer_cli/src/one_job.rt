@@ -3,6 +3,7 @@
 ghost use Rattle.std.specs.Prelude.{◌≡◌, ◌≢◌, ◌↔◌, [], IsTrue, IfOk, OnErr, None};
 ghost use Rattle.outside.specs.Places.{IsWhole, IsSame, StayTold, place_by};
 ghost use Rattle.vdir_store.specs.Names.{is_ending};
+ghost use Rattle.sync_plan.specs.Verdicts.{IsWritable};
 ghost use Rattle.vdirsyncer_cli.specs.SamePlace.{IsSamePlace};
 ghost use Rattle.vdirsyncer_cli.specs.Jobs.{JobAt, OverFolders};
 
@@ -12,7 +13,7 @@ use outside::{Folder, NoMemory, Outfit};
 use status_keeper::FileKeeper;
 use std::alloc::Global;
 use sync_plan::{JobEnd, Refusal, Report};
-use sync_run::sync_collection;
+use sync_run::{SyncOrder, sync_collection};
 use values::Text;
 use vdir_store::VdirStore;
 
@@ -21,17 +22,19 @@ pub fn run_over<D: Folder>(
     alloc: Global,
     ending_a: Text,
     ending_b: Text,
+    order: &SyncOrder,
     dirs: Opened<D>,
 ) -> (Opened<D>, Report)
     requires ending_a { IsTrue (is_ending ending_a) }
     requires ending_b { IsTrue (is_ending ending_b) }
-    ensures { OverFolders D.count D.tells D.state ending_a ending_b dirs result.0 result.1 }
+    requires writable { IsWritable order.now.rules }
+    ensures { OverFolders order.now D.count D.tells D.state ending_a ending_b dirs result.0 result.1 }
 {
     let Opened { a, b, status } = dirs;
     let mut store_a = VdirStore::new(alloc, a, ending_a);
     let mut store_b = VdirStore::new(alloc, b, ending_b);
     let mut keeper = FileKeeper::new(alloc, status);
-    let report = sync_collection(alloc, &mut store_a, &mut store_b, &mut keeper);
+    let report = sync_collection(alloc, &mut store_a, &mut store_b, &mut keeper, order);
     let dirs = Opened {
         a: store_a.into_parts(),
         b: store_b.into_parts(),
@@ -66,6 +69,7 @@ pub fn run_job<O: Outfit>(alloc: Global, job: Job, outfit: &mut O) -> Result<Rep
     requires whole { IsWhole (O.places outfit.old) }
     requires ending_a { IsTrue (is_ending job.ending_a) }
     requires ending_b { IsTrue (is_ending job.ending_b) }
+    requires writable { IsWritable job.order.rules }
     ensures whole { IsWhole (O.places outfit.new) }
     ensures ran { IfOk result (JobAt (O.places outfit.old) (O.places outfit.new) (O.tells outfit.old) (O.tells outfit.new) job) }
     ensures starved { OnErr result (IsSame (O.places outfit.old) (O.places outfit.new)) }
@@ -80,6 +84,7 @@ pub fn run_job<O: Outfit>(alloc: Global, job: Job, outfit: &mut O) -> Result<Rep
         status: place_s,
         ending_a,
         ending_b,
+        order,
     } = job;
     let a = place_a.as_str();
     let b = place_b.as_str();
@@ -88,7 +93,7 @@ pub fn run_job<O: Outfit>(alloc: Global, job: Job, outfit: &mut O) -> Result<Rep
         Ok(dirs) => dirs,
         Err(NoMemory) => return Err(NoMemory),
     };
-    let (dirs, report) = run_over(alloc, ending_a, ending_b, dirs);
+    let (dirs, report) = run_over(alloc, ending_a, ending_b, &order, dirs);
     give_three(a, b, status, dirs, outfit);
     Ok(report)
 }

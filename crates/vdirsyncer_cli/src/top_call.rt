@@ -8,7 +8,7 @@ ghost use Rattle.cli_jobs.specs.Texts.{refusal_text};
 ghost use Rattle.cli_jobs.specs.declared.refusal.Refusal.TheVariants as refusal;
 ghost use Rattle.cli_words.specs.Words.{meaning_of};
 ghost use Rattle.vdirsyncer_cli.specs.Asked.{asked_of};
-ghost use Rattle.vdirsyncer_cli.specs.CleanRuns.{CompleteRun, SinkIsStill, SinkIsSilent};
+ghost use Rattle.vdirsyncer_cli.specs.CleanRuns.{PromisedRun, SinkIsStill, SinkIsSilent};
 ghost use Rattle.vdirsyncer_cli.specs.Files.{file_text};
 ghost use Rattle.vdirsyncer_cli.specs.Printing.{Prints};
 ghost use Rattle.vdirsyncer_cli.specs.Runs.{WordsRun, Refuses, Finishes, TellsStarved, cut_status, job_status, comes_to};
@@ -17,10 +17,9 @@ use crate::asked::{Asked, Wanted, asked_of};
 use crate::config_read::read_through;
 use crate::env::Env;
 use crate::file_error::{FileError, file_text};
-use crate::job::Cut;
-use crate::naming::places_of;
+use crate::naming::job_to_run;
 use crate::one_job::run_job;
-use crate::printing::print;
+use crate::printing::{Cut, print};
 use cli_jobs::{Refusal, SyncJob, job_of, refusal_text};
 use cli_text::{exit_status, report_text};
 use cli_words::usage;
@@ -158,7 +157,7 @@ fn sync<O: Outfit, S: Sink, E: Sink>(
         Some(job) => job,
         None => return 0,
     };
-    let (pair, job) = places_of(job);
+    let (pair, job) = job_to_run(job, wanted.force_delete);
     match run_job(alloc, job, outfit) {
         Ok(report) => finish(alloc, pair.as_str(), &report, out, err),
         Err(NoMemory) => tell_starved(err),
@@ -227,9 +226,7 @@ pub fn run_words<O: Outfit, I: Source, S: Sink, E: Sink>(
 ) -> u8
     requires { IsWhole (O.places outfit.old) }
     ensures whole { IsWhole (O.places outfit.new) }
-    ensures run { WordsRun (O.places outfit.old) (O.places outfit.new) (O.tells outfit.old) (O.tells outfit.new) (asked_of env.now (meaning_of words.now))
-        (Prints S.count S.tells S.held out.old out.new) (Prints E.count E.tells E.held err.old err.new) result }
-    ensures complete { CompleteRun (O.places outfit.old) (O.places outfit.new) (O.tells outfit.old) (O.tells outfit.new) (asked_of env.now (meaning_of words.now))
+    ensures promised { PromisedRun (O.places outfit.old) (O.places outfit.new) (O.tells outfit.old) (O.tells outfit.new) (asked_of env.now (meaning_of words.now))
         (Prints S.count S.tells S.held out.old out.new) (Prints E.count E.tells E.held err.old err.new)
         (SinkIsStill S.count out.old out.new × SinkIsStill E.count err.old err.new)
         (SinkIsSilent S.tells S.held out.old out.new × SinkIsSilent E.tells E.held err.old err.new) result }

@@ -2,8 +2,10 @@ use Rattle.std.proofs.Common.{◌≡◌, take}
 use Rattle.std.specs.List.{AllByRecursion}
 use Rattle.outside.specs.Causes.{Rose}
 use Rattle.store_model.specs.Sides.{IsAnyEvent}
+use Rattle.store_model.specs.Waits.{ActsOrWaits}
 use Rattle.store_model.specs.StoreCalls.{Changes, Stays}
 use Rattle.sync_plan.specs.declared.report.Side.TheVariants.{A, B}
+use Rattle.job_writes.specs.Faults.{RoseBy, faults_of}
 use Rattle.job_writes.specs.Writings.{now_of, sources, FitsRemoval, AllFit, InOrder, RemovalDone, IsCausedOutcome, failed_after}
 use Rattle.job_writes.proofs.phases.remove_all.Given as goal
 
@@ -16,6 +18,10 @@ invariant-loop-planned g l = record {
   done_b : g.B.Store.tells l.fn.b → InOrder (RemovalDone (g.B.Store.waits l.fn.b) B (sources l.held_a l.held_b)) l.failed (take l.planned-index l.plan) l.outcomes.items (now_of (g.B.Store.side l.fn.b) (g.B.Store.waiting l.fn.b)) (now_of (g.B.Store.side l.b) (g.B.Store.waiting l.b));
   fits : AllFit (λ failed p. FitsRemoval failed p.step) l.failed (take l.planned-index l.plan) l.outcomes.items;
   causes : AllByRecursion (IsCausedOutcome (Rose (g.A.Store.count l.fn.a) (g.A.Store.count l.a)) (Rose (g.B.Store.count l.fn.b) (g.B.Store.count l.b))) l.outcomes.items;
+  faults_a : RoseBy (g.A.Store.count l.fn.a) (faults_of A l.outcomes.items) (g.A.Store.count l.a);
+  faults_b : RoseBy (g.B.Store.count l.fn.b) (faults_of B l.outcomes.items) (g.B.Store.count l.b);
+  acts_a : g.A.Store.tells l.fn.a → ActsOrWaits (g.A.Store.waits l.fn.a) (g.A.Store.side l.fn.a) (g.A.Store.side l.a);
+  acts_b : g.B.Store.tells l.fn.b → ActsOrWaits (g.B.Store.waits l.fn.b) (g.B.Store.side l.fn.b) (g.B.Store.side l.b);
   kind_a : Stays g.A.Store.waits g.A.Store.is_sure l.fn.a l.a;
   kind_b : Stays g.B.Store.waits g.B.Store.is_sure l.fn.b l.b;
   listed_a : g.A.Store.is_listed l.a ≡ g.A.Store.is_listed l.fn.a;

@@ -1,7 +1,7 @@
 use Rattle.std.proofs.Common.{[], ◌∷◌, arith}
 use Rattle.std.specs.Prelude.{option_copied}
 use Rattle.store_model.proofs.Moments.{Changes-weaker}
-use Rattle.store_model.proofs.Waits.{over_run}
+use Rattle.store_model.proofs.Waits.{over_run, acts_none, acts_trans}
 use Rattle.vdir_store.specs.VdirCalls.{change_of}
 use Rattle.mem_store.specs.Desks.{desk_side, waiting_of}
 use Rattle.mem_store.proofs.AnswerLemmas.{outside_is_of_these, over_after, stop_over}
@@ -29,3 +29,6 @@ pub returns-in-Ok-clause-answer : goal.returns-in-Ok-clause-answer
 returns-in-Ok-clause-answer c = λ sound.
     let mid = c.begin.ensures.changes.told sound in
     over_after c.args.waits (change_of c.args.href.now c.args.expect (option_copied c.args.new)) (desk_side c.args.desk.now) (desk_side c.begin.new.self) (desk_side c.send.new.self) (waiting_of c.args.desk.now) (waiting_of c.begin.new.self) (waiting_of c.send.new.self) c.send.result c.begin.ensures.waiting mid.1 c.send.ensures.answer
+
+pub returns-in-Ok-clause-acts : goal.returns-in-Ok-clause-acts
+returns-in-Ok-clause-acts c sound = acts_trans (acts_none (c.begin.ensures.changes.told sound).1) c.send.ensures.acts

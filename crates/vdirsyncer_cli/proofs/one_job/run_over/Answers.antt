@@ -1,11 +1,16 @@
 use Rattle.std.proofs.Common.{◌∙◌}
-use Rattle.vdirsyncer_cli.proofs.JobLaws.{step_over, side_by}
+use Rattle.vdirsyncer_cli.proofs.JobLaws.{run_over, side_by}
+use Rattle.outside.specs.Places.{place_by}
+use Rattle.vdirsyncer_cli.specs.Jobs.{places_of}
 use Rattle.vdirsyncer_cli.proofs.one_job.run_over.Goals as goal
 
 pub returns : goal.returns
 returns g c =
     let sync = c.sync_collection-report.ensures in
-    step_over _ _ _ _ _ _ _ _ _ _ _ _ _ _ _ _ _ _ _ _ _ _ _ _ _ _ _ _ _ _ _ _ _
+    run_over _ _ _
+    (places_of g.D.Folder.count g.D.Folder.state c.args.dirs)
+    (record { a = place_by g.D.Folder.count g.D.Folder.state c.into_parts.result; b = place_by g.D.Folder.count g.D.Folder.state c.into_parts-2.result; s = place_by g.D.Folder.count g.D.Folder.state c.into_folder.result })
+    _ _ _ _ _ _ _ _ _ _ _ _ _ _ _ _ _ _ _ _ _ _ _ _ _
     (record {
       count = c.new-store_a.ensures.count;
       count' = c.into_parts.ensures.count;
@@ -30,17 +35,4 @@ returns g c =
       told = c.new-keeper.ensures.tells;
       told' = c.into_folder.ensures.tells;
     })
-    (record {
-      later_a = sync.later_a;
-      later_b = sync.later_b;
-      later_s = sync.later_k;
-      end = sync.end;
-      lines = sync.lines;
-      faults_a = sync.faults_a;
-      faults_b = sync.faults_b;
-      faults_s = sync.faults_k;
-      told_a = sync.told_a;
-      told_b = sync.told_b;
-      told_s = λ told. (sync.told_k told).0;
-      run = sync.job;
-    })
+    sync.step

@@ -1,6 +1,6 @@
-use Rattle.vdirsyncer_cli.proofs.CleanLaws.{complete_run}
+use Rattle.vdirsyncer_cli.proofs.CleanLaws.{promised_run}
 use Rattle.vdirsyncer_cli.proofs.top_call.run_words.Goals as goal
 
-pub returns-clause-complete : goal.returns-clause-complete
-returns-clause-complete g c =
-    complete_run g.S.Sink.count g.S.Sink.tells g.S.Sink.held c.args.out.now c.do_words.new.out g.E.Sink.count g.E.Sink.tells g.E.Sink.held c.args.err.now c.do_words.new.err _ _ _ _ _ c.do_words.result c.do_words.ensures.run
+pub returns-clause-promised : goal.returns-clause-promised
+returns-clause-promised g c =
+    promised_run g.S.Sink.count g.S.Sink.tells g.S.Sink.held c.args.out.now c.do_words.new.out g.E.Sink.count g.E.Sink.tells g.E.Sink.held c.args.err.now c.do_words.new.err _ _ _ _ _ c.do_words.result c.do_words.ensures.run

@@ -1,6 +1,6 @@
 use Rattle.std.proofs.Common.{ℕ, List, Ok, ap, ◌∙◌}
 use Rattle.vdirsyncer_cli.specs.declared.job.Job.{Job}
-use Rattle.vdirsyncer_cli.proofs.Endings.{ending_of_a, ending_of_b}
+use Rattle.vdirsyncer_cli.proofs.Endings.{ending_of_a, ending_of_b, is_writable}
 use Rattle.vdirsyncer_cli.proofs.WordsLaws.{silent, refused_file, refused_config, nothing_run, unopened_run, job_run}
 use Rattle.vdirsyncer_cli.proofs.top_call.sync.Goals as goal
 
@@ -18,16 +18,20 @@ returns-in-None-clause-run g c =
 
 pub run_job-requires-clause-ending_a : goal.run_job-requires-clause-ending_a
 run_job-requires-clause-ending_a g c κs within =
-    ending_of_a c.args.wanted.now c.in-Ok.bytes c.in-Some.job c.places_of-pair.result.1 (c.in-Ok-chosen.ensures ∙ ap Ok c.in-Some.is) (ap (λ (p : List ℕ × Job). p.1) c.places_of-pair.ensures)
+    ending_of_a c.args.wanted.now c.in-Ok.bytes c.in-Some.job c.job_to_run-pair.result.1 (c.in-Ok-chosen.ensures ∙ ap Ok c.in-Some.is) (ap (λ (p : List ℕ × Job). p.1) c.job_to_run-pair.ensures)
 
 pub run_job-requires-clause-ending_b : goal.run_job-requires-clause-ending_b
 run_job-requires-clause-ending_b g c κs within =
-    ending_of_b c.args.wanted.now c.in-Ok.bytes c.in-Some.job c.places_of-pair.result.1 (c.in-Ok-chosen.ensures ∙ ap Ok c.in-Some.is) (ap (λ (p : List ℕ × Job). p.1) c.places_of-pair.ensures)
+    ending_of_b c.args.wanted.now c.in-Ok.bytes c.in-Some.job c.job_to_run-pair.result.1 (c.in-Ok-chosen.ensures ∙ ap Ok c.in-Some.is) (ap (λ (p : List ℕ × Job). p.1) c.job_to_run-pair.ensures)
+
+pub run_job-requires-clause-writable : goal.run_job-requires-clause-writable
+run_job-requires-clause-writable g c κs within =
+    is_writable c.args.wanted.now c.in-Ok.bytes c.in-Some.job c.job_to_run-pair.result.1 (c.in-Ok-chosen.ensures ∙ ap Ok c.in-Some.is) (ap (λ (p : List ℕ × Job). p.1) c.job_to_run-pair.ensures)
 
 pub returns-in-Ok-run_job-clause-run : goal.returns-in-Ok-run_job-clause-run
 returns-in-Ok-run_job-clause-run g c =
-    job_run _ _ _ _ _ _ c.args.wanted.now c.in-Ok.bytes c.in-Some.job c.places_of-pair.result.1 c.in-Ok-run_job.report _ _ _ (rw c.as_str-file.ensures at c.in-Ok.ensures.read) c.in-Ok.ensures.stay_told (c.in-Ok-chosen.ensures ∙ ap Ok c.in-Some.is) (ap (λ (p : List ℕ × Job). p.1) c.places_of-pair.ensures) c.in-Ok-run_job.ensures.ran
-    (rw (c.as_str.ensures ∙ ap (λ (p : List ℕ × Job). p.0) c.places_of-pair.ensures) at c.finish.ensures)
+    job_run _ _ _ _ _ _ c.args.wanted.now c.in-Ok.bytes c.in-Some.job c.job_to_run-pair.result.1 c.in-Ok-run_job.report _ _ _ (rw c.as_str-file.ensures at c.in-Ok.ensures.read) c.in-Ok.ensures.stay_told (c.in-Ok-chosen.ensures ∙ ap Ok c.in-Some.is) (ap (λ (p : List ℕ × Job). p.1) c.job_to_run-pair.ensures) c.in-Ok-run_job.ensures.ran
+    (rw (c.as_str.ensures ∙ ap (λ (p : List ℕ × Job). p.0) c.job_to_run-pair.ensures) at c.finish.ensures)
 
 pub returns-clause-run : goal.returns-clause-run
 returns-clause-run g c =
