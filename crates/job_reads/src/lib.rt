@@ -1,5 +1,5 @@
 //! What one run of one job reads before it writes: the status, both listings, and of each side the items whose place no row
-//! has, in this order. Nothing calls it yet.
+//! has, in this order.
 #![tactic(auto)]
 
 mod laws;

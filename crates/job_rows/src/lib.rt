@@ -1,4 +1,4 @@
-//! The rows that a run comes to, by its plan and what became of each step. Nothing calls it yet.
+//! The rows that a run comes to, by its plan and what became of each step.
 #![tactic(auto)]
 
 mod building;

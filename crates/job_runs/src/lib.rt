@@ -1,5 +1,5 @@
 //! What one run of one job may do, whatever faults and edits from outside it meets, and what follows from it for each
-//! ident. Nothing calls it yet: it is what a run over the whole table is to prove of itself.
+//! ident. Each run is proved to be such a one above (`job_traces`).
 #![tactic(auto)]
 
 mod laws;

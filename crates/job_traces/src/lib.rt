@@ -1,4 +1,4 @@
-//! From the calls of one run to what it did for each ident on each side. Nothing calls it yet.
+//! From the calls of one run to what it did for each ident on each side.
 #![tactic(auto)]
 
 mod laws;

@@ -1,5 +1,5 @@
 //! What one run of one job writes for the steps of its plan: all steps but removals in byte order of idents, then the
-//! removals. Nothing calls it yet.
+//! removals.
 #![tactic(auto)]
 
 mod outcome;

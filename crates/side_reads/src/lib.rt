@@ -1,5 +1,5 @@
 //! What a run takes a side to hold: what rows of the status say of the entries of its listing, and what was fetched of the
-//! others. Nothing calls it yet.
+//! others.
 #![tactic(auto)]
 
 mod holding;
