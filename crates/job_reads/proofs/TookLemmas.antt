@@ -24,12 +24,12 @@ use Rattle.status_keeper.specs.declared.row.Row.{Row}
 use Rattle.sync_plan.specs.declared.report.Side.{Side}
 use Rattle.sync_plan.specs.declared.seen.Seen.{Seen}
 use Rattle.sync_plan.specs.Merging.{Within}
-use Rattle.sync_plan.specs.Plans.{seen_of}
+use Rattle.sync_plan.specs.Plans.{seen_of, HasNoTwin}
 use Rattle.sync_plan.proofs.Rising.{first_cases, precedes_differs, within_all}
 use Rattle.side_reads.specs.Places.{href_on, etag_on, is_text, is_at, row_at}
 use Rattle.side_reads.specs.Holdings.{IsOfText, IsTakenFor, AreTaken}
 use Rattle.job_runs.specs.Courses.{Course, IsRowAt}
-use Rattle.job_runs.specs.Taken.{IsTaken, StandsOther, FoundNone, Took}
+use Rattle.job_runs.specs.Taken.{IsTaken, StandsOther, FoundNone, FoundAlone, Took}
 use Rattle.job_reads.specs.Readings.{Reads, IsReadText}
 
 -- ---- the row at a place
@@ -96,6 +96,32 @@ entry_stands (d ∷ es) sorted e (inr later) =
     ap (λ (b : Bool). cond b (Some d.1) (find (slice_cmp nat_cmp) e.0 es)) (is_eq-slice_cmp e.0 d.0 ∙ decided e.0 d.0 (λ h. precedes_differs d.0 e.0 (below_later d.0 es both.0 e later) (sym ((bytes_eq-Decides e.0 d.0).0 h))))
     ∙ entry_stands es both.1 e later
 
+same_or_other : (x y : List ℕ) → (x ≡ y) ⊎ (x ≡ y → ⊥)
+same_or_other x y = at (bytes_eq x y) refl
+  where
+    at : (b : Bool) → bytes_eq x y ≡ b → (x ≡ y) ⊎ (x ≡ y → ⊥)
+    at true e = inl ((bytes_eq-Decides x y).0 e)
+    at false e = inr (λ same. false≢true (sym e ∙ (bytes_eq-Decides x y).1 same))
+
+place_within : (xs : List Seen) (x : Seen) → Within x xs → (i : ℕ) × (slice_get xs i ≡ Some x)
+place_within [] x h = elim h [ ]
+place_within (y ∷ ys) x (inl same) = (zero, ap Some (sym same))
+place_within (y ∷ ys) x (inr later) = let rest = place_within ys x later in (suc rest.0, rest.1)
+
+pub within_place : (xs : List Seen) (i : ℕ) (x : Seen) → slice_get xs i ≡ Some x → Within x xs
+within_place [] i x e = cc
+within_place (y ∷ ys) zero x e = inl (cc)
+within_place (y ∷ ys) (suc i) x e = inr (within_place ys i x e)
+
+-- where no two have one ident, one of the ident is the same
+only_one : (xs : List Seen) (x y : Seen) → HasNoTwin xs → Within x xs → Within y xs → x.ident ≡ y.ident → x ≡ y
+only_one xs x y alone is_x is_y same =
+    let at_x = place_within xs x is_x in
+    let at_y = place_within xs y is_y in
+    let places : at_x.0 ≡ at_y.0 = alone.once at_x.0 at_y.0 x y at_x.1 at_y.1 same in
+    let both : Some x ≡ Some y = sym at_x.1 ∙ (ap (slice_get xs) places ∙ at_y.1) in
+    cc
+
 -- ---- what is taken for an entry
 
 module _ (side : Side) (rows : List Row) (fetched : List Fetched) where
@@ -103,6 +129,10 @@ module _ (side : Side) (rows : List Row) (fetched : List Fetched) where
   pub record IsOfEntry (href etag : List ℕ) (x : Seen) : Type 0 where
     pub text : Option ItemValue
     pub taken : IsTakenFor fetched (row_at side href etag rows) (record { href = href; etag = etag }) x text
+
+  href_of : (o : Option Row) (e : Entry) (x : Seen) (text : Option ItemValue) → IsTakenFor fetched o e x text → x.href ≡ e.href
+  href_of (Some row) e x text (of, none) = of.href
+  href_of None e x text (f, within, at, of, is_text) = of.href ∙ at
 
   seen_entry : (es : List (List ℕ × Held)) (ss : List Seen) (ts : List (Option ItemValue)) → AreTaken side rows fetched (map entry_of es) ss ts → (x : Seen) → Within x ss → (e : List ℕ × Held) × Within e es × IsOfEntry e.0 (e.1).etag x
   seen_entry [] [] [] taken x within = elim within [ ]
@@ -192,6 +222,22 @@ module _ (c : Course) (entries : Vec Entry Global) (fetched : Vec Fetched Global
           each = λ href held stands.
               let found = entry_seen c.side c.rows fetched.items (fin.entries (reads.listed).content) ss ts of_entries href held (sym (get-entries (reads.listed).content href) ∙ stands) in
               other_taken ident href held found.0 found.2.text (row_at c.side href held.etag c.rows) refl (none found.0 found.1) found.2.taken;
+        }
+
+    -- the ident of an item stands at its href alone, where no two have one ident
+    pub found_alone : HasNoTwin ss → (x : Seen) → Within x ss → FoundAlone c x.ident x.href
+    found_alone alone x within =
+        record {
+          listed = reads.listed;
+          from = since;
+          until = reads.until;
+          each = λ q held stands.
+              let found = entry_seen c.side c.rows fetched.items (fin.entries (reads.listed).content) ss ts of_entries q held (sym (get-entries (reads.listed).content q) ∙ stands) in
+              let o : Option Row = row_at c.side q held.etag c.rows in
+              elim (same_or_other (found.0).ident x.ident) [
+                | inl same ↦ inl (sym (href_of c.side c.rows fetched.items o (record { href = q; etag = held.etag }) found.0 found.2.text found.2.taken) ∙ ap (λ (y : Seen). y.href) (only_one ss found.0 x alone found.1 within same))
+                | inr differs ↦ inr (other_taken x.ident q held found.0 found.2.text o refl differs found.2.taken)
+              ];
         }
 
     pub took : (ident : List ℕ) → Took c ident (option_map (λ x. (x.fp).0) (seen_of ident ss))

@@ -4,8 +4,8 @@ ghost use Rattle.std.specs.Prelude.{◌≡◌, ℕ, Bool, List, Some, option_map
 ghost use Rattle.item_text.specs.Items.{ItemValue};
 ghost use Rattle.store_model.specs.Sides.{SideState};
 ghost use Rattle.sync_plan.specs.declared.seen.Seen.{Seen};
-ghost use Rattle.sync_plan.specs.Plans.{seen_of};
-ghost use Rattle.job_runs.specs.Taken.{Took};
+ghost use Rattle.sync_plan.specs.Plans.{seen_of, HasNoTwin};
+ghost use Rattle.job_runs.specs.Taken.{Took, FoundAlone};
 ghost use Rattle.job_reads.specs.Readings.{Span, IsRead, IsReadText, course_of_a, course_of_b};
 ghost use Rattle.job_reads.specs.declared.reading.ReadJob.{ReadJob};
 
@@ -15,6 +15,15 @@ pub fn readings_are_taken()
         IsRead force x r → Took (course_of_a x r exit) ident (option_map (λ s. (s.fp).0) (seen_of ident r.a.seen.items)) }
     ensures on_b { (force : Bool) (x : Span) (r : ReadJob) (exit : SideState) (ident : List ℕ) →
         IsRead force x r → Took (course_of_b x r exit) ident (option_map (λ s. (s.fp).0) (seen_of ident r.b.seen.items)) }
+{}
+
+/// Where no two items of a listing have one ident, a run found each ident at its item's href alone: each other entry it
+/// fetched, and it is of another ident, or a row says that it is of another.
+pub fn idents_are_found_alone()
+    ensures on_a { (force : Bool) (x : Span) (r : ReadJob) (exit : SideState) (place : ℕ) (seen : Seen) →
+        IsRead force x r → HasNoTwin r.a.seen.items → slice_get r.a.seen.items place ≡ Some seen → FoundAlone (course_of_a x r exit) seen.ident seen.href }
+    ensures on_b { (force : Bool) (x : Span) (r : ReadJob) (exit : SideState) (place : ℕ) (seen : Seen) →
+        IsRead force x r → HasNoTwin r.b.seen.items → slice_get r.b.seen.items place ≡ Some seen → FoundAlone (course_of_b x r exit) seen.ident seen.href }
 {}
 
 /// The text that a run has for a place of a listing was read on that side, and stood there.

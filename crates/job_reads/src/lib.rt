@@ -6,6 +6,6 @@ mod laws;
 mod reading;
 mod stop;
 
-pub use laws::{readings_are_taken, texts_were_read};
+pub use laws::{idents_are_found_alone, readings_are_taken, texts_were_read};
 pub use reading::{ReadJob, read_job};
 pub use stop::Stop;

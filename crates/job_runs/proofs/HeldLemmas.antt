@@ -19,12 +19,12 @@ use Rattle.sync_plan.specs.declared.rules.Rules.{Rules}
 use Rattle.sync_plan.specs.Verdicts.{Versions, step_of}
 use Rattle.sync_plan.specs.JobSteps.{written}
 use Rattle.job_runs.specs.Courses.{Course, IsCourse, IsRowAt}
-use Rattle.job_runs.specs.Taken.{StandsAs, StandsOther, Took, IsOverTaken}
+use Rattle.job_runs.specs.Taken.{StandsAs, StandsOther, FoundAlone, Took, IsOverTaken}
 use Rattle.job_runs.specs.Writes.{WroteFor, WroteAll, after_all, IsPlace, IsEtagOf}
 use Rattle.job_runs.specs.Jobs.{IsMade, IsRowOfHeld, IdentRun, JobOf, IsHonest, IsUntouchedOn}
-use Rattle.job_runs.specs.Held.{StandsAt, IsVouched, HeldOn, IsHeldRow, FoundAlone, WasRemoved, GoneOn, IsGoneRow, IsByStep}
+use Rattle.job_runs.specs.Held.{StandsAt, IsVouched, HeldOn, IsHeldRow, GoneOn, IsGoneRow, IsByStep}
 use Rattle.job_runs.proofs.TakenLemmas.{taken_stood, took_saw, clash_of}
-use Rattle.job_runs.proofs.SideLemmas.{no_write_is_other, over_is_of, others, refl_since, saw_is_view, all_to, all_stands}
+use Rattle.job_runs.proofs.SideLemmas.{no_write_is_other, others, refl_since, saw_is_view, all_to, all_stands}
 
 -- ---- what stands of an ident that nothing is written of stood before, or an edit from outside put it there
 
@@ -158,26 +158,21 @@ module _ (ident : List ℕ) (c peer : Course) (course : IsCourse c) (honest : Is
             | inr put ↦ put_later c.entry found.listed m n q (Some x) found.from put step
           ]
 
-  removed_at : (moment : SideState) (href : List ℕ) (version : List ℕ) (old new : Option Held) (sent : Option (List ℕ)) → Since c.read moment → Evolves (IsNotWriteOf ident) c.read moment → IsTrueEvent moment (Wrote href old new sent) → Since (happens moment (Wrote href old new sent)) c.exit → IsOverTaken c ident href (Some version) old → IsPut ident None new → WasRemoved c ident
-  removed_at moment href version old (Some x) sent first before is_true later over put = absurd put
-  removed_at moment href version old None (Some text) first before is_true later over put = absurd is_true.1
-  removed_at moment href version None None None first before is_true later (held, same, taken) put = absurd (cc)
-  removed_at moment href version (Some x) None None first before is_true later (held, same, taken) put =
-      let from : Since c.entry moment = Evolves-trans (Since-from_evolves course.reads) first in
+  removed_at : (moment : SideState) (href : List ℕ) (version : List ℕ) (old new : Option Held) (sent : Option (List ℕ)) → Since c.read moment → Evolves (IsNotWriteOf ident) c.read moment → IsTrueEvent moment (Wrote href old new sent) → Since (happens moment (Wrote href old new sent)) c.exit → IsOverTaken c ident href (Some version) old → IsPut ident None new → FoundAlone c ident href → Sometime (Lacks ident c.entry) c.entry c.exit
+  removed_at moment href version old (Some x) sent first before is_true later over put found = absurd put
+  removed_at moment href version old None (Some text) first before is_true later over put found = absurd is_true.1
+  removed_at moment href version None None None first before is_true later (held, same, taken) put found = absurd (cc)
+  removed_at moment href version (Some x) None None first before is_true later over put found =
       let e : StoreEvent = Wrote href (Some x) None None in
       record {
-        moment = moment;
-        href = href;
-        held = x;
-        from = from;
-        is_true = is_true;
+        moment = happens moment e;
+        from = Evolves-trans (Since-from_evolves course.reads) (Evolves-trans first (Evolves-one moment e tt is_true));
         until = later;
-        is_of = over_is_of ident c course honest ident version href moment held x from (Evolves-trans (Evolves-one moment e tt is_true) later) is_true.0 same (taken_stood c ident version href held.etag course honest.rows taken);
-        lacks = λ found. lacks_after moment href x before is_true later found;
+        was = lacks_after moment href x before is_true later found;
       }
 
-  lacked_by : (saw : Option (List ℕ)) (o : Option (Option (List ℕ))) → Took c ident saw → WroteAll c peer ident saw o → after_all o saw ≡ None → Sometime (Lacks ident c.entry) c.entry c.exit ⊎ WasRemoved c ident
-  lacked_by None o took all came = inl (record { moment = c.read; from = Since-from_evolves course.reads; until = course.later; was = took_saw c ident None course honest.rows took })
+  lacked_by : (saw : Option (List ℕ)) (o : Option (Option (List ℕ))) → Took c ident saw → WroteAll c peer ident saw o → after_all o saw ≡ None → Sometime (Lacks ident c.entry) c.entry c.exit
+  lacked_by None o took all came = record { moment = c.read; from = Since-from_evolves course.reads; until = course.later; was = took_saw c ident None course honest.rows took }
   lacked_by (Some version) None took all came = absurd (let clash : Some version ≡ None = came in cc)
   lacked_by (Some version) (Some (Some to)) took w came = absurd (let clash : Some to ≡ None = came in cc)
   lacked_by (Some version) (Some None) took w came =
@@ -185,7 +180,7 @@ module _ (ident : List ℕ) (c peer : Course) (course : IsCourse c) (honest : Is
       let later : Since (happens w.moment e) c.exit = Since-from_evolves w.after in
       let until : Since w.moment c.exit = Evolves-trans (Evolves-one w.moment e tt w.is_true) later in
       let before : Evolves (IsNotWriteOf ident) c.read w.moment = others ident c course honest c.read w.moment (refl_since ident c course honest c.read) until w.before in
-      inr (removed_at w.moment w.href version w.old w.new w.sent (Since-from_evolves w.before) before w.is_true later w.over w.put)
+      removed_at w.moment w.href version w.old w.new w.sent (Since-from_evolves w.before) before w.is_true later w.over w.put w.alone
 
   gone_on : (saw : Option (List ℕ)) (o : Option (Option (List ℕ))) → Took c ident saw → WroteAll c peer ident saw o → after_all o saw ≡ None → GoneOn c ident
   gone_on saw o took all came = record { lacked = lacked_by saw o took all came; ends = λ quiet. ends_at saw o took all quiet ∙ came }

@@ -4,14 +4,13 @@ use Rattle.std.specs.FinMap as fin
 use Rattle.item_text.specs.Items.{ItemValue, item_of}
 use Rattle.status_keeper.specs.declared.row.Row.{Row}
 use Rattle.store_model.specs.declared.event.Held.{Held}
-use Rattle.store_model.specs.declared.event.StoreEvent.TheVariants.{Wrote}
-use Rattle.store_model.specs.Sides.{SideState, happens, IsTrueEvent, Since, Evolves, Sometime, Lacks, IsNoWrite, IsTextOf}
+use Rattle.store_model.specs.Sides.{SideState, Sometime, Lacks}
 use Rattle.side_views.specs.Views.{view, HoldsVersion}
 use Rattle.side_reads.specs.Places.{href_on, etag_on}
 use Rattle.sync_plan.specs.declared.rules.Rules.{Rules}
 use Rattle.sync_plan.specs.Verdicts.{Versions}
-use Rattle.job_runs.specs.Courses.{Course, IsRowAt}
-use Rattle.job_runs.specs.Taken.{StandsOther, Saw}
+use Rattle.job_runs.specs.Courses.{Course}
+use Rattle.job_runs.specs.Taken.{Saw}
 use Rattle.job_runs.specs.Writes.{IsEtagOf}
 use Rattle.job_runs.specs.Jobs.{version_by, IsRowOfHeld, IsUntouchedOn}
 
@@ -42,27 +41,9 @@ pub record IsHeldRow (a b : Course) (ident : List ℕ) (row : Row) : Type 0 wher
   pub on_a : HeldOn a ident row
   pub on_b : HeldOn b ident row
 
--- of the entries that were listed none but the one at this href is of the ident: each other was fetched and is of another, or a row says that it is of another
-pub record FoundAlone (c : Course) (ident href : List ℕ) : Type 0 where
-  pub listed : SideState
-  pub from : Since c.entry listed
-  pub until : Evolves IsNoWrite listed c.read
-  pub each : (q : List ℕ) (held : Held) → fin.get listed.content q ≡ Some held → (q ≡ href) ⊎ Sometime (StandsOther ident q) listed c.read ⊎ ((other : List ℕ) × (version : List ℕ) × (other ≡ ident → ⊥) × IsRowAt c other version q held.etag)
-
--- the run removed an item of the ident: behind that write the side lacked the ident, unless the run had found it at another href too
-pub record WasRemoved (c : Course) (ident : List ℕ) : Type 0 where
-  pub moment : SideState
-  pub href : List ℕ
-  pub held : Held
-  pub from : Since c.entry moment
-  pub is_true : IsTrueEvent moment (Wrote href (Some held) None None)
-  pub until : Since (happens moment (Wrote href (Some held) None None)) c.exit
-  pub is_of : IsTextOf ident held.text
-  pub lacks : FoundAlone c ident href → Lacks ident c.entry (happens moment (Wrote href (Some held) None None))
-
 -- the side lacked the ident at a moment of the run, and where no edit from outside touches the ident it lacks it at exit
 pub record GoneOn (c : Course) (ident : List ℕ) : Type 0 where
-  pub lacked : Sometime (Lacks ident c.entry) c.entry c.exit ⊎ WasRemoved c ident
+  pub lacked : Sometime (Lacks ident c.entry) c.entry c.exit
   pub ends : IsUntouchedOn ident c → view c.exit ident ≡ None
 
 pub record IsGoneRow (a b : Course) (ident : List ℕ) : Type 0 where

@@ -41,6 +41,13 @@ pub record FoundNone (c : Course) (ident : List ℕ) : Type 0 where
   pub until : Evolves IsNoWrite listed c.read
   pub each : (href : List ℕ) (held : Held) → fin.get listed.content href ≡ Some held → Sometime (StandsOther ident href) listed c.read ⊎ ((other : List ℕ) × (version : List ℕ) × (other ≡ ident → ⊥) × IsRowAt c other version href held.etag)
 
+-- of the entries that were listed none but the one at this href is of the ident: each other was fetched and is of another, or a row says that it is of another
+pub record FoundAlone (c : Course) (ident href : List ℕ) : Type 0 where
+  pub listed : SideState
+  pub from : Since c.entry listed
+  pub until : Evolves IsNoWrite listed c.read
+  pub each : (q : List ℕ) (held : Held) → fin.get listed.content q ≡ Some held → (q ≡ href) ⊎ Sometime (StandsOther ident q) listed c.read ⊎ ((other : List ℕ) × (version : List ℕ) × (other ≡ ident → ⊥) × IsRowAt c other version q held.etag)
+
 -- what the run took the side to hold of the ident: nothing, or a version
 abbrev pub Took : Course → List ℕ → Option (List ℕ) → Type 0
 Took c ident None = FoundNone c ident
@@ -59,3 +66,8 @@ Saw c ident (Some version) = Sometime (HoldsVersion ident version) c.entry c.rea
 abbrev pub IsOverSeen : Course → List ℕ → List ℕ → Option (List ℕ) → Option Held → Type 0
 IsOverSeen c ident href None old = old ≡ None
 IsOverSeen c ident href (Some version) old = (held : Held) × (old ≡ Some held) × Sometime (StandsAs ident version href held.etag) c.entry c.read
+
+-- what a write was sent over, where it is something, was found at this href alone
+abbrev pub IsAlone : Course → List ℕ → List ℕ → Option (List ℕ) → Type 0
+IsAlone c ident href None = Unit {0}
+IsAlone c ident href (Some version) = FoundAlone c ident href

@@ -8,7 +8,7 @@ use Rattle.store_model.specs.Sides.{SideState, happens, IsTrueEvent, Evolves, So
 use Rattle.side_views.specs.Views.{IsPut}
 use Rattle.job_runs.specs.Courses.{Course}
 use Rattle.side_reads.specs.Places.{href_on, etag_on}
-use Rattle.job_runs.specs.Taken.{IsTaken, IsOverTaken}
+use Rattle.job_runs.specs.Taken.{IsTaken, IsOverTaken, IsAlone}
 
 abbrev pub IsNewOf : List ℕ → Option Held → Type 0
 IsNewOf ident None = Unit {0}
@@ -26,7 +26,7 @@ abbrev pub IsSource : Course → List ℕ → Option (List ℕ) → Type 0
 IsSource other ident None = Unit {0}
 IsSource other ident (Some text) = IsTextOf ident text × Sometime (HoldsText text) other.entry other.read × WasRead other.entry other.read text
 
--- one own write is for the ident: over what the run took the side to hold it puts this version, or nothing; each other own write is for another ident
+-- one own write is for the ident: over what the run took the side to hold, and found at no other href, it puts this version, or nothing; each other own write is for another ident
 pub record WroteFor (c other : Course) (ident : List ℕ) (saw to : Option (List ℕ)) : Type 0 where
   pub moment : SideState
   pub href : List ℕ
@@ -36,6 +36,7 @@ pub record WroteFor (c other : Course) (ident : List ℕ) (saw to : Option (List
   pub before : Evolves (IsForOthers c ident) c.read moment
   pub is_true : IsTrueEvent moment (Wrote href old new sent)
   pub over : IsOverTaken c ident href saw old
+  pub alone : IsAlone c ident href saw
   pub put : IsPut ident to new
   pub source : IsSource other ident sent
   pub after : Evolves (IsForOthers c ident) (happens moment (Wrote href old new sent)) c.exit

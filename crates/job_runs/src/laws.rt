@@ -50,9 +50,8 @@ pub fn writes_have_sources()
 {}
 
 /// Each row at exit is the one at entry, or one of a version that both sides held in this run, or none where each side lacked
-/// the ident in this run or the run removed it there, or what a held-back ident's row becomes. A side on which no edit from
-/// outside touches the ident holds or lacks it so at exit. The hrefs and etags of a row that both sides held are vouched by
-/// this run. Behind a removal the side lacked the ident, where the run had found it at no other href.
+/// the ident in this run, or what a held-back ident's row becomes. A side on which no edit from outside touches the ident
+/// holds or lacks it so at exit. The hrefs and etags of a row that both sides held are vouched by this run.
 pub fn rows_are_by_step()
     ensures { (rules : Rules) (a b : Course) (before after : List Row) (ident : List ℕ) →
         IsHonest a → IsHonest b → JobOf rules a b before after →

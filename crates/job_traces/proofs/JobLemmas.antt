@@ -21,7 +21,7 @@ use Rattle.job_runs.specs.Writes.{WroteFor, WroteAll, WroteSome}
 use Rattle.job_runs.specs.Jobs.{course_at, IsMade, IsRowOfHeld, IdentRun, JobOf}
 use Rattle.job_reads.specs.declared.reading.ReadJob.{ReadJob}
 use Rattle.job_reads.specs.Readings.{Span, course_of_a, course_of_b}
-use Rattle.job_reads.proofs.TookLemmas.{each_taken, text_read, took}
+use Rattle.job_reads.proofs.TookLemmas.{each_taken, found_alone, text_read, took}
 use Rattle.job_writes.specs.Writings.{Sources, now_of, sources, failed_after}
 use Rattle.job_writes.specs.declared.outcome.Outcome.{Outcome}
 use Rattle.job_rows.specs.RowsAfter.{outcome_of, row_after, IsStepAt}
@@ -56,12 +56,14 @@ module _ (force : Bool) (rules : Rules) (x : Span) (r : ReadJob) (exit_a exit_b 
   knows_a : Knows a b A src before rules
   knows_a = record {
     taken = λ s within. each_taken a (ran.read).entries_a (ran.read).fetched_a (ran.read).reads_a r.a.seen.items r.a.items.items (ran.read).taken_a s within;
+    alone = λ s within. found_alone a (ran.read).entries_a (ran.read).fetched_a (ran.read).reads_a r.a.seen.items r.a.items.items (ran.read).taken_a (ran.is_plan).once_a s within;
     texts = λ index s item is_seen is_text. text_read b (ran.read).entries_b (ran.read).fetched_b (ran.read).reads_b r.b.seen.items r.b.items.items index s item (ran.read).taken_b is_seen is_text;
   }
 
   knows_b : Knows b a B src before rules
   knows_b = record {
     taken = λ s within. each_taken b (ran.read).entries_b (ran.read).fetched_b (ran.read).reads_b r.b.seen.items r.b.items.items (ran.read).taken_b s within;
+    alone = λ s within. found_alone b (ran.read).entries_b (ran.read).fetched_b (ran.read).reads_b r.b.seen.items r.b.items.items (ran.read).taken_b (ran.is_plan).once_b s within;
     texts = λ index s item is_seen is_text. text_read a (ran.read).entries_a (ran.read).fetched_a (ran.read).reads_a r.a.seen.items r.a.items.items index s item (ran.read).taken_a is_seen is_text;
   }
 

@@ -212,7 +212,7 @@ module _ (c peer : Course) (side : Side) (x : Sources) (rows : List Row) (rules 
     -- ---- when all is flushed
 
     wrote_by : (to : Option (List ℕ)) (ch : Change) → (acted : HasActed c peer ident (saw c peer side x rows rules ident) to ch c.exit) → WroteFor c peer ident (saw c peer side x rows rules ident) to
-    wrote_by to ch acted = record { moment = acted.moment; href = ch.href; old = acted.old; new = acted.new; sent = ch.sent; before = acted.before; is_true = acted.is_true; over = acted.over; put = acted.put; source = acted.source; after = acted.after }
+    wrote_by to ch acted = record { moment = acted.moment; href = ch.href; old = acted.old; new = acted.new; sent = ch.sent; before = acted.before; is_true = acted.is_true; over = acted.over; alone = acted.alone; put = acted.put; source = acted.source; after = acted.after }
 
     -- the row's place on this side is that of the write
     pub record IsWroteRow (row : Row) : Type 0 where

@@ -186,6 +186,7 @@ module _ (c peer : Course) (side : Side) (x : Sources) (rows : List Row) (rules 
           before = (w.acted).before;
           is_true = (w.acted).is_true;
           over = (w.acted).over;
+          alone = (w.acted).alone;
           put = (w.acted).put;
           source = (w.acted).source;
           after = (w.acted).after;

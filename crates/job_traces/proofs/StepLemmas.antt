@@ -18,7 +18,7 @@ use Rattle.sync_plan.specs.JobSteps.{on_side, written}
 use Rattle.sync_plan.proofs.Facts.{Fits, verdict_fits}
 use Rattle.side_reads.specs.declared.holding.Holding.{Holding}
 use Rattle.job_runs.specs.Courses.{Course}
-use Rattle.job_runs.specs.Taken.{IsTaken}
+use Rattle.job_runs.specs.Taken.{IsTaken, FoundAlone, IsAlone}
 use Rattle.job_runs.specs.Writes.{IsSource}
 use Rattle.job_reads.specs.Readings.{IsReadText}
 use Rattle.job_writes.specs.Writings.{SideNow, Sends, Sources, held_on, place_on, seen_at, text_at, IsSourceAt, CopySent, OverSent, RemovalSent}
@@ -112,6 +112,7 @@ module _ (c peer : Course) (side : Side) (x : Sources) (rows : List Row) (rules 
   -- what the run knows of both sides
   pub record Knows : Type 0 where
     pub taken : (s : Seen) → Within s own.seen.items → IsTaken c s.ident (s.fp).0 s.href s.etag
+    pub alone : (s : Seen) → Within s own.seen.items → FoundAlone c s.ident s.href
     pub texts : (index : ℕ) (s : Seen) (item : ItemValue) → slice_get other.seen.items index ≡ Some s → slice_get other.items.items index ≡ Some (Some item) → IsReadText peer s item
 
   abbrev pub IsPlanned : Planned → Type 0
@@ -154,6 +155,11 @@ module _ (c peer : Course) (side : Side) (x : Sources) (rows : List Row) (rules 
       subst (λ (o : Option (List ℕ)). Expects c ident ch o) (sym (version_at side ident over here.first))
       (over.etag, expected, subst (λ (h : List ℕ). IsTaken c ident (over.fp).0 h over.etag) (sym at) (subst (λ (i : List ℕ). IsTaken c i (over.fp).0 over.href over.etag) here.same_ident (knows.taken over (within_slice own.seen.items here.index over here.stands))))
 
+  alone_own : (ident : List ℕ) (place : Option ℕ) (over : Seen) (ch : Change) → Knows → IsAtPlace ident own place over → ch.href ≡ over.href → IsAlone c ident ch.href (on_side side (versions_at ident))
+  alone_own ident place over ch knows here at =
+      subst (λ (o : Option (List ℕ)). IsAlone c ident ch.href o) (sym (version_at side ident over here.first))
+      (subst (λ (h : List ℕ). FoundAlone c ident h) (sym at) (subst (λ (i : List ℕ). FoundAlone c i over.href) here.same_ident (knows.alone over (within_slice own.seen.items here.index over here.stands))))
+
   table_at : (p : Planned) (st : Step) → IsPlanned p → p.step ≡ st → Fits st (due_of rules (versions_at (p.ident).now)) (versions_at (p.ident).now)
   table_at p st planned is = subst (λ (q : Step). Fits q (due_of rules (versions_at (p.ident).now)) (versions_at (p.ident).now)) (sym planned.by_table ∙ is) (verdict_fits rules (versions_at (p.ident).now))
 
@@ -164,6 +170,7 @@ module _ (c peer : Course) (side : Side) (x : Sources) (rows : List Row) (rules 
       let found = source_of ident (place_on (other_side side) p) from item knows (place_of (other_side side) p planned) source in
       record {
         expects = subst (λ (o : Option (List ℕ)). Expects c ident (new_at href item.text) o) (sym fits.2) refl;
+        alone = subst (λ (o : Option (List ℕ)). IsAlone c ident href o) (sym fits.2) tt;
         sends = sent_as ident (place_on (other_side side) p) from item found.0 found.1;
         source = source_is ident (place_on (other_side side) p) from item found.0 found.1;
       }
@@ -175,6 +182,7 @@ module _ (c peer : Course) (side : Side) (x : Sources) (rows : List Row) (rules 
       let here = at_place ident own (place_on side p) over (place_of side p planned) stands in
       record {
         expects = expects_own ident (place_on side p) over (over_at over.href over.etag item.text) knows here refl refl;
+        alone = alone_own ident (place_on side p) over (over_at over.href over.etag item.text) knows here refl;
         sends = sent_as ident (place_on (other_side side) p) from item found.0 found.1;
         source = source_is ident (place_on (other_side side) p) from item found.0 found.1;
       }
@@ -183,7 +191,12 @@ module _ (c peer : Course) (side : Side) (x : Sources) (rows : List Row) (rules 
   removal_write p over knows planned stands =
       let ident = (p.ident).now in
       let here = at_place ident own (place_on side p) over (place_of side p planned) stands in
-      record { expects = expects_own ident (place_on side p) over (gone_at over.href over.etag) knows here refl refl; sends = refl; source = tt }
+      record {
+        expects = expects_own ident (place_on side p) over (gone_at over.href over.etag) knows here refl refl;
+        alone = alone_own ident (place_on side p) over (gone_at over.href over.etag) knows here refl;
+        sends = refl;
+        source = tt;
+      }
 
   pub copy_says : (p : Planned) → p.step ≡ step.CopyTo side → written p.step None side (versions_at (p.ident).now) ≡ Some (on_side (other_side side) (versions_at (p.ident).now))
   copy_says p is = ap (λ (q : Step). written q None side (versions_at (p.ident).now)) is ∙ written_copy side (versions_at (p.ident).now)

@@ -12,7 +12,7 @@ use Rattle.store_model.specs.Waits.{Change, fits_at, Acts, ActAll, Flushes}
 use Rattle.store_model.proofs.Moments.{Evolves-refl, Evolves-trans, Evolves-weaker, Evolves-one}
 use Rattle.side_views.specs.Views.{IsPut}
 use Rattle.job_runs.specs.Courses.{Course}
-use Rattle.job_runs.specs.Taken.{IsTaken, IsOverTaken}
+use Rattle.job_runs.specs.Taken.{IsTaken, IsOverTaken, IsAlone}
 use Rattle.job_runs.specs.Writes.{IsNewOf, IsForOthers, IsSource, IsEtagOf}
 use Rattle.job_writes.specs.Writings.{SideNow, IsSent, Sends}
 use Rattle.job_traces.specs.Traces.{Expects, IsSentAs, IsWriteFor, IsFlushed}
@@ -116,6 +116,7 @@ module _ (c peer : Course) (ident : List ℕ) where
       pub before : Evolves (IsForOthers c ident) c.read moment
       pub is_true : IsTrueEvent moment (Wrote ch.href old new ch.sent)
       pub over : IsOverTaken c ident ch.href saw old
+      pub alone : IsAlone c ident ch.href saw
       pub put : IsPut ident to new
       pub source : IsSource peer ident ch.sent
       pub after : Evolves (IsForOthers c ident) (happens moment (Wrote ch.href old new ch.sent)) t
@@ -142,7 +143,7 @@ module _ (c peer : Course) (ident : List ℕ) where
 
     acted_more : (ch : Change) (s t : SideState) → HasActed ch s → Evolves (IsForOthers c ident) s t → HasActed ch t
     acted_more ch s t acted more =
-        record { moment = acted.moment; old = acted.old; new = acted.new; before = acted.before; is_true = acted.is_true; over = acted.over; put = acted.put; source = acted.source; after = Evolves-trans acted.after more }
+        record { moment = acted.moment; old = acted.old; new = acted.new; before = acted.before; is_true = acted.is_true; over = acted.over; alone = acted.alone; put = acted.put; source = acted.source; after = Evolves-trans acted.after more }
 
     -- the state goes on by what is for others, and the waiting changes stay
     state_more : (s t : SideNow) → Evolves (IsForOthers c ident) s.state t.state → t.waiting ≡ s.waiting → Tracks s → Tracks t
@@ -185,6 +186,7 @@ module _ (c peer : Course) (ident : List ℕ) where
           before = Evolves-trans run (Evolves-weaker outside_is_for_others w.before);
           is_true = w.is_true;
           over = over_taken c ident ch saw acts.old write.expects acts.fit;
+          alone = write.alone;
           put = is_put ident ch.sent to acts.new write.sends w.is_true.1;
           source = write.source;
           after = Evolves-weaker outside_is_for_others w.after;
@@ -207,6 +209,7 @@ module _ (c peer : Course) (ident : List ℕ) where
           before = run;
           is_true = is_true;
           over = over_taken c ident ch saw old write.expects fit;
+          alone = write.alone;
           put = is_put ident ch.sent to new write.sends is_true.1;
           source = write.source;
           after = all_act rest (happens s e) t all_rest later;

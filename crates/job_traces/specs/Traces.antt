@@ -12,7 +12,7 @@ use Rattle.sync_plan.specs.declared.dues.Step.TheVariants as step
 use Rattle.sync_plan.specs.declared.seen.Planned.{Planned}
 use Rattle.sync_plan.specs.Plans.{IsPlan}
 use Rattle.job_runs.specs.Courses.{Course}
-use Rattle.job_runs.specs.Taken.{IsTaken}
+use Rattle.job_runs.specs.Taken.{IsTaken, IsAlone}
 use Rattle.job_runs.specs.Writes.{IsSource}
 use Rattle.job_reads.specs.declared.reading.ReadJob.{ReadJob}
 use Rattle.job_reads.specs.Readings.{Span, IsRead}
@@ -33,9 +33,10 @@ abbrev pub IsSentAs : List ℕ → Option (List ℕ) → Option (List ℕ) → T
 IsSentAs ident sent None = sent ≡ None
 IsSentAs ident sent (Some version) = (text : List ℕ) × (item : ItemValue) × (sent ≡ Some text) × (item_of text ≡ Some item) × (item.ident ≡ ident) × (item.version ≡ version)
 
--- the change is the run's write for this ident: over what the run took the side to hold, to what the step says, with a text that the run read on the other side
+-- the change is the run's write for this ident: over what the run took the side to hold, and found at no other href, to what the step says, with a text that the run read on the other side
 pub record IsWriteFor (c peer : Course) (ident : List ℕ) (saw to : Option (List ℕ)) (ch : Change) : Type 0 where
   pub expects : Expects c ident ch saw
+  pub alone : IsAlone c ident ch.href saw
   pub sends : IsSentAs ident ch.sent to
   pub source : IsSource peer ident ch.sent
 
