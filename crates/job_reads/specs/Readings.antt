@@ -1,5 +1,5 @@
 -- What a run of one job reads before it writes, in which order, and why it stops there (this project's own).
-use Rattle.std.specs.Prelude.{◌≡◌, ℕ, Bool, true, false, List, [], ◌∷◌, ◌++◌, map, Option, Some, None, Result, Ok, Err}
+use Rattle.std.specs.Prelude.{◌≡◌, ◌⊎◌, ℕ, Bool, true, false, List, [], ◌∷◌, ◌++◌, map, Option, Some, None, Result, Ok, Err}
 use Rattle.std.specs.List.{AllByRecursion}
 use Rattle.std.specs.declared.vec.Vec.{Vec}
 use Rattle.std.specs.declared.alloc.Global.{Global}
@@ -9,7 +9,7 @@ use Rattle.store_model.specs.declared.store.Fetched.{Fetched}
 use Rattle.store_model.specs.declared.store.StoreError.{StoreError}
 use Rattle.store_model.specs.declared.store.StoreError.TheVariants as store
 use Rattle.store_model.specs.Sides.{Content, SideState, Evolves, Sometime, WasRead, HoldsText, IsOutside, IsNoWrite}
-use Rattle.store_model.specs.StoreCalls.{IsListing, WasFetched, HasFault, GetAnswer, read_of}
+use Rattle.store_model.specs.StoreCalls.{IsListing, WasFetched, HasFault, IsGetOf, GetAnswer, read_of}
 use Rattle.status_keeper.specs.declared.row.Row.{Row}
 use Rattle.status_keeper.specs.declared.keeper.KeeperError.{KeeperError}
 use Rattle.status_keeper.specs.Kept.{KeeperState, IsEdit}
@@ -39,12 +39,20 @@ pub record ListFails (error : StoreError) (s t : SideState) : Type 0 where
   pub run : Evolves IsOutside s t
   pub answered : Sometime (IsListing (Err error)) s t
 
+-- it was listed, and then nothing was read but at hrefs of entries whose place no row has
+pub record GetsAsked (side : Side) (rows : List Row) (entries : Vec Entry Global) (s t : SideState) : Type 0 where
+  pub listed : SideState
+  pub from : Evolves IsOutside s listed
+  pub is_listing : IsListing (Ok entries) listed
+  pub gets : Evolves (IsGetOf (asked side rows entries.items)) listed t
+
 -- it was listed, then the items whose place no row has were fetched, and nothing else was read
 pub record Reads (side : Side) (rows : List Row) (entries : Vec Entry Global) (fetched : Vec Fetched Global) (s t : SideState) : Type 0 where
   pub listed : SideState
   pub from : Evolves IsOutside s listed
   pub is_listing : IsListing (Ok entries) listed
   pub until : Evolves IsNoWrite listed t
+  pub gets : Evolves (IsGetOf (asked side rows entries.items)) listed t
   pub asks : map (λ f. f.href) fetched.items ≡ asked side rows entries.items
   pub each : AllByRecursion (WasFetched listed t) fetched.items
   pub reads : t.reads ≡ s.reads ++ map read_of fetched.items
@@ -62,12 +70,13 @@ abbrev pub FetchAnswers : SideState → SideState → List (List ℕ) → StoreE
 FetchAnswers listed t hrefs store.NoMemory = Unit {0}
 FetchAnswers listed t hrefs error = StopsFetching listed t hrefs error
 
--- it was listed, and the fetch of the items whose place no row has answered the error
+-- it was listed, and the fetch of the items whose place no row has answered the error; nothing else was read
 pub record FetchFails (side : Side) (rows : List Row) (entries : Vec Entry Global) (error : StoreError) (s t : SideState) : Type 0 where
   pub listed : SideState
   pub from : Evolves IsOutside s listed
   pub is_listing : IsListing (Ok entries) listed
   pub until : Evolves IsNoWrite listed t
+  pub gets : Evolves (IsGetOf (asked side rows entries.items)) listed t
   pub answers : FetchAnswers listed t (asked side rows entries.items) error
 
 -- ---- the status
@@ -176,11 +185,17 @@ abbrev pub IsUnfetched : Bool → Side → Span → StoreError → Type 0
 IsUnfetched force A x error = IsUnfetchedOfA force x error
 IsUnfetched force B x error = IsUnfetchedOfB force x error
 
--- nothing was written
+-- nothing of the side was read; or the status was loaded, the side listed, and then only entries were read whose place no row has
+abbrev pub IsReadWithin : Side → KeeperState → KeeperState → SideState → SideState → Type 0
+IsReadWithin side k now s t = Evolves IsOutside s t ⊎ ((rows : Vec Row Global) × (entries : Vec Entry Global) × Loads k now rows × GetsAsked side rows.items entries s t)
+
+-- nothing was written, and of each side nothing else was read
 pub record OnlyReads (x : Span) : Type 0 where
   pub keeper : status.Evolves IsEdit x.k x.k_now
   pub a : Evolves IsNoWrite x.a x.a_now
   pub b : Evolves IsNoWrite x.b x.b_now
+  pub within_a : IsReadWithin A x.k x.k_now x.a x.a_now
+  pub within_b : IsReadWithin B x.k x.k_now x.b x.b_now
 
 abbrev pub IsStop : Bool → Span → Stop → Type 0
 IsStop force x (Unloaded error) = LoadFails x.k x.k_now error × (x.a_now ≡ x.a) × (x.b_now ≡ x.b)

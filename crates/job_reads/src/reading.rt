@@ -3,7 +3,7 @@
 ghost use Rattle.std.specs.Prelude.{◌⊎◌, ◌≡◌, ◌≤◌, ℕ, List, [], true, false, IfOk, IfErr, OnOk, length};
 ghost use Rattle.outside.specs.Causes.{Rose};
 ghost use Rattle.store_model.specs.Sides.{IsNoWrite, WasEdited};
-ghost use Rattle.store_model.specs.StoreCalls.{StoreCause, Changes, Stays, Keeps, IsKnown};
+ghost use Rattle.store_model.specs.StoreCalls.{StoreCause, Changes, Stays, Keeps, IsKnown, IsGetOf};
 ghost use Rattle.store_model.specs.declared.store.Entry.{Entry};
 ghost use Rattle.status_keeper.specs.Idents.{IsRising};
 ghost use Rattle.status_keeper.specs.Rows.{row_idents};
@@ -50,7 +50,7 @@ fn hold_side<S: Store>(
     entries: Vec<Entry>,
 ) -> Result<Holding, Stop>
     requires { S.is_listed store.old ≡ true }
-    ensures changes { Changes S.count S.tells S.side IsNoWrite store.old store.new }
+    ensures changes { Changes S.count S.tells S.side (IsGetOf (asked side rows.now entries.items)) store.old store.new }
     ensures answer { S.tells store.old → HoldAnswer (S.recalls store.old) side rows.now entries (S.side store.old) (S.side store.new) result }
     ensures cause { IfErr result (IsFetchStop side (StoreCause (Rose (S.count store.old) (S.count store.new)))) }
     ensures count { IfOk result (λ h. length h.seen.items ≡ length entries.items) }

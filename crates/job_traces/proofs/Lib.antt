@@ -7,3 +7,4 @@ pub mod RowsMade
 pub mod PhaseLemmas
 pub mod JobLemmas
 pub mod PlaceLemmas
+pub mod ReadsLemmas

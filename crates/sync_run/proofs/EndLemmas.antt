@@ -7,7 +7,7 @@ use Rattle.store_model.specs.declared.store.StoreError.{StoreError}
 use Rattle.store_model.specs.declared.store.StoreError.TheVariants as store
 use Rattle.store_model.specs.Waits.{ActsOrWaits}
 use Rattle.status_keeper.specs.declared.row.Row.{Row}
-use Rattle.status_keeper.specs.Kept.{KeeperEvent, Edited, Toggled, Made, Committed, Spoiled, IsCommitOf, IsEdit}
+use Rattle.status_keeper.specs.Kept.{KeeperEvent, Edited, Toggled, Made, Committed, Spoiled, IsCommitOf, IsEdit, IsMaking}
 use Rattle.status_keeper.specs.KeeperCalls.{found_at}
 use Rattle.sync_plan.specs.declared.report.Side.{Side}
 use Rattle.sync_plan.specs.declared.report.Side.TheVariants.{A, B}
@@ -38,6 +38,13 @@ commit_is_keeping rows Toggled h = tt
 commit_is_keeping rows Made h = tt
 commit_is_keeping rows (Committed committed) h = tt
 commit_is_keeping rows (Spoiled kept stamp) h = h
+
+pub making_is_keeping : (e : KeeperEvent) → IsMaking e → IsKeeping e
+making_is_keeping (Edited kept stamp) h = tt
+making_is_keeping Toggled h = tt
+making_is_keeping Made h = tt
+making_is_keeping (Committed rows) h = tt
+making_is_keeping (Spoiled kept stamp) h = h
 
 pub edit_is_keeping : (e : KeeperEvent) → IsEdit e → IsKeeping e
 edit_is_keeping (Edited kept stamp) h = tt

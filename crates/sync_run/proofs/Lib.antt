@@ -1,5 +1,6 @@
 pub mod EndLemmas
 pub mod RunLemmas
+pub mod ReadingLemmas
 pub mod SettledLemmas
 pub mod DueLemmas
 pub mod FaultLemmas

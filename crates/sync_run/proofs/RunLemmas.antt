@@ -5,9 +5,8 @@ use Rattle.std.specs.declared.alloc.Global.{Global}
 use Rattle.outside.proofs.Runs.{Runs-refl, Runs-weaker}
 use Rattle.store_model.specs.declared.store.StoreError.{StoreError}
 use Rattle.store_model.specs.declared.store.StoreError.TheVariants as store
-use Rattle.store_model.specs.declared.store.Entry.{Entry}
-use Rattle.store_model.specs.Sides.{SideState, Evolves, IsNoWrite, IsOutside}
-use Rattle.store_model.proofs.Moments.{Evolves-refl, Evolves-trans, Evolves-weaker, outside_is_no_write}
+use Rattle.store_model.specs.Sides.{SideState, Evolves, IsOutside}
+use Rattle.store_model.proofs.Moments.{Evolves-refl}
 use Rattle.status_keeper.specs.declared.row.Row.{Row}
 use Rattle.status_keeper.specs.declared.keeper.KeeperError.{KeeperError}
 use Rattle.status_keeper.specs.declared.keeper.KeeperError.TheVariants as keeper
@@ -21,12 +20,14 @@ use Rattle.sync_plan.specs.declared.rules.Rules.{Rules}
 use Rattle.job_reads.specs.declared.stop.Stop.{Stop}
 use Rattle.job_reads.specs.declared.stop.Stop.TheVariants as stop
 use Rattle.job_reads.specs.declared.reading.ReadJob.{ReadJob}
-use Rattle.job_reads.specs.Readings.{Span, span, IsRead, IsStop, IsLoaded, OnlyReads, Lists}
+use Rattle.job_reads.specs.Readings.{Span, span, IsRead, IsStop, IsLoaded, OnlyReads}
+use Rattle.job_reads.proofs.ReadLemmas.{lists_outside, reads_asked, fails_asked, only_reads}
 use Rattle.job_writes.specs.Writings.{SideNow, now_of, sources}
 use Rattle.job_writes.proofs.OrderLemmas.{did_tried}
 use Rattle.job_rows.specs.RowsAfter.{rows_after}
 use Rattle.job_traces.specs.Traces.{IsFlushed, AllFlushed, Ran}
 use Rattle.job_traces.proofs.JobLemmas.{job_of}
+use Rattle.job_traces.proofs.ReadsLemmas.{wrote_reads}
 use Rattle.sync_plan.specs.declared.report.Refusal.{Refusal}
 use Rattle.sync_plan.specs.declared.report.Refusal.TheVariants.{SameLocation, Status, Storage, StorageEmpty, SameIdent}
 use Rattle.sync_plan.specs.declared.report.JobEnd.{JobEnd}
@@ -48,29 +49,26 @@ load_still m t (Err keeper.NoMemory) h = h
 pub load_run : (s t : KeeperState) (result : Result (Vec Row Global) KeeperError) → AfterEdits s (λ m. LoadAnswer m t result) → status.Evolves IsEdit s t
 load_run s t result h = subst (λ (x : KeeperState). status.Evolves IsEdit s x) (sym (load_still h.moment t result h.does)) h.edits
 
-quiet : {s t : SideState} → Evolves IsOutside s t → Evolves IsNoWrite s t
-quiet run = Evolves-weaker outside_is_no_write run
-
-at_rest : (s t : SideState) → t ≡ s → Evolves IsNoWrite s t
-at_rest s t same = subst (λ (x : SideState). Evolves IsNoWrite s x) (sym same) (Evolves-refl s)
-
-lists_reads : (entries : Vec Entry Global) (s t : SideState) → Lists entries s t → Evolves IsNoWrite s t
-lists_reads entries s t lists = quiet (Evolves-trans lists.from lists.until)
+at_rest : (s t : SideState) → t ≡ s → Evolves IsOutside s t
+at_rest s t same = subst (λ (x : SideState). Evolves IsOutside s x) (sym same) (Evolves-refl s)
 
 loaded_reads : (x : Span) → IsLoaded x → status.Evolves IsEdit x.k x.k_now
 loaded_reads x (rows, loads) = load_run x.k x.k_now (Ok rows) loads
 
 pub stop_reads : (force : Bool) (x : Span) (s : Stop) → IsStop force x s → OnlyReads x
-stop_reads force x (stop.Unloaded error) (fails, same_a, same_b) = record { keeper = load_run x.k x.k_now (Err error) fails; a = at_rest x.a x.a_now same_a; b = at_rest x.b x.b_now same_b }
-stop_reads force x (stop.Unlisted A error) (loaded, fails, same_b) = record { keeper = loaded_reads x loaded; a = quiet fails.run; b = at_rest x.b x.b_now same_b }
-stop_reads force x (stop.Unlisted B error) (loaded, (entries, lists), fails) = record { keeper = loaded_reads x loaded; a = lists_reads entries x.a x.a_now lists; b = quiet fails.run }
-stop_reads force x (stop.Emptied side) at = record { keeper = load_run x.k x.k_now (Ok at.rows) at.load; a = lists_reads at.entries_a x.a x.a_now at.lists_a; b = lists_reads at.entries_b x.b x.b_now at.lists_b }
-stop_reads force x (stop.Unfetched A error) at = record { keeper = load_run x.k x.k_now (Ok at.rows) at.load; a = Evolves-trans (quiet (at.fails).from) (at.fails).until; b = lists_reads at.entries_b x.b x.b_now at.lists_b }
-stop_reads force x (stop.Unfetched B error) at = record { keeper = load_run x.k x.k_now (Ok at.rows) at.load; a = Evolves-trans (quiet (at.reads_a).from) (at.reads_a).until; b = Evolves-trans (quiet (at.fails).from) (at.fails).until }
+stop_reads force x (stop.Unloaded error) (fails, same_a, same_b) = only_reads x (load_run x.k x.k_now (Err error) fails) (inl (at_rest x.a x.a_now same_a)) (inl (at_rest x.b x.b_now same_b))
+stop_reads force x (stop.Unlisted A error) (loaded, fails, same_b) = only_reads x (loaded_reads x loaded) (inl fails.run) (inl (at_rest x.b x.b_now same_b))
+stop_reads force x (stop.Unlisted B error) (loaded, (entries, lists), fails) = only_reads x (loaded_reads x loaded) (inl (lists_outside entries x.a x.a_now lists)) (inl fails.run)
+stop_reads force x (stop.Emptied side) at = only_reads x (load_run x.k x.k_now (Ok at.rows) at.load) (inl (lists_outside at.entries_a x.a x.a_now at.lists_a)) (inl (lists_outside at.entries_b x.b x.b_now at.lists_b))
+stop_reads force x (stop.Unfetched A error) at =
+    only_reads x (load_run x.k x.k_now (Ok at.rows) at.load) (inr (at.rows, at.entries_a, at.load, fails_asked A (at.rows).items at.entries_a error x.a x.a_now at.fails)) (inl (lists_outside at.entries_b x.b x.b_now at.lists_b))
+stop_reads force x (stop.Unfetched B error) at =
+    only_reads x (load_run x.k x.k_now (Ok at.rows) at.load) (inr (at.rows, at.entries_a, at.load, reads_asked A (at.rows).items at.entries_a at.fetched_a x.a x.a_now at.reads_a)) (inr (at.rows, at.entries_b, at.load, fails_asked B (at.rows).items at.entries_b error x.b x.b_now at.fails))
 stop_reads force x stop.NoMemory at = at
 
 read_reads : (force : Bool) (x : Span) (r : ReadJob) → IsRead force x r → OnlyReads x
-read_reads force x r read = record { keeper = load_run x.k x.k_now (Ok r.rows) read.load; a = Evolves-trans (quiet (read.reads_a).from) (read.reads_a).until; b = Evolves-trans (quiet (read.reads_b).from) (read.reads_b).until }
+read_reads force x r read =
+    only_reads x (load_run x.k x.k_now (Ok r.rows) read.load) (inr (r.rows, read.entries_a, read.load, reads_asked A r.rows.items read.entries_a read.fetched_a x.a x.a_now read.reads_a)) (inr (r.rows, read.entries_b, read.load, reads_asked B r.rows.items read.entries_b read.fetched_b x.b x.b_now read.reads_b))
 
 -- ---- what flushes and a commit leave
 
@@ -105,9 +103,20 @@ module _ (force : Bool) (rules : Rules) (waits_a waits_b : Bool) (x : Span) (rep
   y = going known_a known_b r k x.k_now a x.a_now b x.b_now
 
   job_run : (after : List Row) → Ran force rules (span x.k k x.a a x.b b) r x.a_now x.b_now after → KeepsRows k x.k_now r.rows.items after → JobRun force rules x
-  job_run after ran keeps = record { k = k; a = a; b = b; r = r; read = read; after = after; job = job_of force rules (span x.k k x.a a x.b b) r x.a_now x.b_now after ran; keeps = keeps }
+  job_run after ran keeps = record {
+    k = k;
+    a = a;
+    b = b;
+    r = r;
+    read = read;
+    after = after;
+    job = job_of force rules (span x.k k x.a a x.b b) r x.a_now x.b_now after ran;
+    keeps = keeps;
+    unread_a = wrote_reads ran.waits_a A (sources r.a r.b) ran.plan a x.a_now ran.wrote_a;
+    unread_b = wrote_reads ran.waits_b B (sources r.a r.b) ran.plan b x.b_now ran.wrote_b;
+  }
 
-  broken : BreaksOff rules waits_a waits_b y → JobRun force rules x
+  pub broken : BreaksOff rules waits_a waits_b y → JobRun force rules x
   broken off = job_run r.rows.items (record { read = read; plan = off.plan; is_plan = off.is_plan; waits_a = waits_a; waits_b = waits_b; wrote_a = off.wrote_a; wrote_b = off.wrote_b; rows = inl refl }) (inl (refl, off.kept))
 
   module _ (end : JobEnd) (f : Finishes rules waits_a waits_b y report end) where
@@ -151,7 +160,7 @@ module _ (force : Bool) (rules : Rules) (waits_a waits_b : Bool) (x : Span) (rep
     not_flushed A error (fails, same) kept = stays (fail_flushed f.end_a x.a_now error fails) (still_flushed f.end_b x.b_now same) (still_kept k x.k_now kept)
     not_flushed B error (flush_a, fails) kept = stays (inr flush_a) (fail_flushed f.end_b x.b_now error fails) (still_kept k x.k_now kept)
 
-  finished : (end : JobEnd) → Finishes rules waits_a waits_b y report end → JobRun force rules x
+  pub finished : (end : JobEnd) → Finishes rules waits_a waits_b y report end → JobRun force rules x
   finished Synced f = let ends = (f.closes).ends in synced Synced f (f.closes).changed ends.0 ends.1 ends.2
   finished (NotCommitted error) f = let ends = (f.closes).ends in not_committed (NotCommitted error) f error ends.0 ends.1 (ends.2).1
   finished (NotFlushed side error) f = let ends = (f.closes).ends in not_flushed (NotFlushed side error) f side error ends.0 ends.1
@@ -161,12 +170,9 @@ module _ (force : Bool) (rules : Rules) (waits_a waits_b : Bool) (x : Span) (rep
   -- a run that did nothing behind its reading
   still : IsStill y → OnlyReads x
   still (same_k, same_a, same_b) =
-      let only = read_reads force (span x.k k x.a a x.b b) r read in
-      record {
-        keeper = subst (λ (t : KeeperState). status.Evolves IsEdit x.k t) (sym same_k) only.keeper;
-        a = subst (λ (t : SideState). Evolves IsNoWrite x.a t) (sym same_a) only.a;
-        b = subst (λ (t : SideState). Evolves IsNoWrite x.b t) (sym same_b) only.b;
-      }
+      subst (λ (u : SideState). OnlyReads (span x.k x.k_now x.a x.a_now x.b u)) (sym same_b)
+      (subst (λ (t : SideState). OnlyReads (span x.k x.k_now x.a t x.b b)) (sym same_a)
+      (subst (λ (m : KeeperState). OnlyReads (span x.k m x.a a x.b b)) (sym same_k) (read_reads force (span x.k k x.a a x.b b) r read)))
 
   pub twinned : (refusal : Refusal) → IsTwinned y refusal → OnlyReads x
   twinned (SameIdent side ident first second) (refused, same) = still same

@@ -239,3 +239,6 @@ pub record JobRun (force : Bool) (rules : Rules) (x : Span) : Type 0 where
   pub after : List Row
   pub job : JobOf rules (course_of_a (span x.k k x.a a x.b b) r x.a_now) (course_of_b (span x.k k x.a a x.b b) r x.b_now) r.rows.items after
   pub keeps : KeepsRows k x.k_now r.rows.items after
+  -- nothing was read behind the reading
+  pub unread_a : (x.a_now).reads ≡ a.reads
+  pub unread_b : (x.b_now).reads ≡ b.reads

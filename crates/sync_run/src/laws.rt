@@ -11,13 +11,15 @@ ghost use Rattle.job_reads.specs.Readings.{Span, span, OnlyReads, course_of_a, c
 ghost use Rattle.sync_plan.specs.declared.report.Refusal.{Refusal};
 ghost use Rattle.sync_plan.specs.declared.report.Report.{Report};
 ghost use Rattle.sync_plan.specs.declared.report.JobEnd.TheVariants as job_end;
-ghost use Rattle.sync_run.specs.Ends.{IsJob, JobRun};
+ghost use Rattle.sync_run.specs.Ends.{IsJob, RunsOn, JobRun};
 ghost use Rattle.sync_run.specs.Promise.{IsPromised};
 ghost use Rattle.sync_run.specs.Quiet.{IsQuiet, IsQuietEnd, AreConflicts, EndsWell};
+ghost use Rattle.sync_run.specs.Reading.{ReadsAsked, ReadsAll};
 ghost use Rattle.sync_run.specs.Ready.{IsReady, EndsReady, ComesTooLong};
 ghost use Rattle.sync_run.specs.Settled.{IsTold, InSync};
 
-/// However a run ends, it only read, or it did a job, and the status keeps the rows that the job came to.
+/// However a run ends, it only read, or it did a job, read nothing behind its reading, and the status keeps the rows that the
+/// job came to.
 pub fn ends_are_runs()
     ensures { (force : Bool) (rules : Rules) (waits_a waits_b : Bool) (x : Span) (report : Report) →
         IsJob force rules waits_a waits_b x report → OnlyReads x ⊎ JobRun force rules x }
@@ -29,6 +31,16 @@ pub fn ends_are_runs()
 pub fn promises_are_kept()
     ensures { (force : Bool) (rules : Rules) (waits_a waits_b : Bool) (x : Span) (report : Report) →
         IsJob force rules waits_a waits_b x report → IsPromised force rules x }
+{}
+
+/// Whatever a run meets and wherever it stops, of each side it read nothing but entries of its listing whose href and etag don't
+/// both stand in one row of the status, as it was loaded. Where it went on past its reading it has read each of these once, in
+/// the listing's order, and nothing after them.
+pub fn reads_are_asked()
+    ensures only { (force : Bool) (rules : Rules) (waits_a waits_b : Bool) (x : Span) (report : Report) →
+        IsJob force rules waits_a waits_b x report → ReadsAsked x }
+    ensures each { (force : Bool) (rules : Rules) (waits_a waits_b : Bool) (x : Span) (report : Report) →
+        RunsOn force rules waits_a waits_b x report → ReadsAll x }
 {}
 
 /// Where a run ended in sync, whatever failed: for each ident a line tells why it was not done, or its step is one that no run

@@ -9,6 +9,6 @@ mod lines;
 pub use job::{SyncOrder, sync_collection};
 pub use laws::{
     ends_are_runs, promises_are_kept, quiet_runs_end_well, quiet_runs_tell_conflicts,
-    ready_runs_end_clean, refusals_change_nothing, synced_or_told, too_long_is_so,
+    reads_are_asked, ready_runs_end_clean, refusals_change_nothing, synced_or_told, too_long_is_so,
     untold_is_at_its_due,
 };
