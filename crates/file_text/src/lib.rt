@@ -2,5 +2,7 @@
 #![tactic(auto)]
 
 mod folds;
+mod laws;
 
 pub use folds::push_folded;
+pub use laws::{folded_lines_are_short, folded_lines_are_unique, folded_lines_unfold};
