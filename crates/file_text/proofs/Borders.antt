@@ -35,7 +35,7 @@ at_fits n text h =
     let parts = and_parts (nat_le n (length text)) (is_border (drop n text)) h in
     (leb-true n (length text) parts.0, λ below low. rw (← front_is n text) (at_border (drop n text) parts.1 (omega (arith, length-drop n text)) (rw (front_is n text) low)))
 
--- behind no place between these two a text is cut between characters
+-- above `count`, no place up to `most` is a border between characters
 pub record NoneBetween (text : List ℕ) (count most : ℕ) : Type 0 where
   pub none : (i : ℕ) → count < i → i ≤ most → IsCharBoundary text i → ⊥
 

@@ -16,7 +16,7 @@ use Rattle.file_text.proofs.Pieces.{joined_pieces, pieces_no_feed}
 no_feed_behind : (piece : List ℕ) → HasNoFeed piece → HasNoFeed (32 ∷ piece)
 no_feed_behind piece plain = All-cons (λ b. (b == 10) ≡ false) 32 piece refl plain
 
--- pieces, of which the first may have anything in front
+-- a piece and those behind it are one logical line, before a text that doesn't continue it
 texts_folded : (piece : List ℕ) (more : List (List ℕ)) (rest : List ℕ) → HasNoFeed piece → All HasNoFeed more → continues rest ≡ false
     → texts_of (lines ((piece ++ behind_piece more) ++ rest)) ≡ (piece ++ concat more) ∷ texts_of (lines rest)
 unfolding behind_piece continues

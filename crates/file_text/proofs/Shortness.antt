@@ -21,7 +21,7 @@ one_more : (line rest : List ℕ) (lines_of : List (List ℕ)) → lines_of ≡ 
 one_more line rest lines_of is short more =
     subst (λ (ls : List (List ℕ)). All (λ (physical : List ℕ). length physical ≤ 75) ls) (sym is) (All-cons (λ (physical : List ℕ). length physical ≤ 75) line (lines rest) short more)
 
--- what stands behind a line that is begun, one byte before it
+-- one byte more between a line that is begun and what stands behind it
 short_by : (t : Bool) (begun behind : List ℕ) (b room : ℕ) → (b == 10) ≡ t → HasNoFeed begun → length begun + 1 + room ≤ 75
     → ((more : List ℕ) → HasNoFeed more → length more + room ≤ 75 → HasShortLines (more ++ behind)) → HasShortLines (begun ++ (b ∷ behind))
 short_by true begun behind b room feed plain short again =

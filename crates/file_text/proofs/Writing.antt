@@ -1,21 +1,13 @@
 -- Writing: what is written of a line, piece by piece.
-use Rattle.std.proofs.Common.{◌≡◌, ℕ, ◌<◌, ◌≤◌, List, [], ◌∷◌, ◌++◌, length, take, drop, cond, Result, Ok, Err, is_ok, OnOk, refl, sym, ◌∙◌, ap, subst, arith, append_assoc, append-nil}
+use Rattle.std.proofs.Common.{◌≡◌, ℕ, ◌<◌, ◌≤◌, List, [], ◌∷◌, ◌++◌, length, take, drop, cond, Result, Ok, Err, is_ok, OnOk, refl, ◌∙◌, ap, subst, arith, append_assoc}
 use Rattle.file_text.specs.Folds.{fitting, ArePieces, behind_piece, folded_of, IsFolded}
 
--- what stands where `old` stood, of a line of which this much is left: with pieces of what is left behind it, it is the line folded
+-- `now` is `old` and what is written of a line so far: with the pieces of what is left of the line behind it, that is the line folded
 pub record Writes (old now line left : List ℕ) (most : ℕ) : Type 0 where
   pub written : List ℕ
   pub so_far : now ≡ old ++ written
   pub whole : (pieces : List (List ℕ)) → ArePieces most left pieces → (all : List (List ℕ)) × ArePieces 75 line all × (written ++ folded_of pieces ≡ folded_of all)
   pub enough : 74 ≤ most
-
-pub writes_none : (old line : List ℕ) → Writes old old line line 75
-writes_none old line = record {
-  written = [];
-  so_far = sym (append-nil old);
-  whole = λ pieces are. (pieces, are, refl);
-  enough = omega arith;
-}
 
 abbrev begun_again : List ℕ
 begun_again = 13 ∷ 10 ∷ 32 ∷ []

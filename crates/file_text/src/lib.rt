@@ -1,4 +1,4 @@
-//! The text of a file of many items.
+//! The text of a file of many items: so far how a logical line of it is written.
 #![tactic(auto)]
 
 mod folds;
