@@ -1,0 +1,21 @@
+-- Unfolds: the logical lines that a text gives.
+use Rattle.std.specs.Prelude.{◌≡◌, ℕ, ◌==◌, false, nat_eq, List, [], ◌∷◌, map}
+use Rattle.std.specs.List.{All, starts_with}
+use Rattle.std.specs.Str.Lines.{lines}
+use Rattle.item_text.specs.Lines.{Line, unfolded, logical_lines}
+
+-- the texts of the logical lines of a text
+abbrev pub line_texts : List ℕ → List (List ℕ)
+line_texts text = map (λ (line : Line). line.text) (logical_lines text)
+
+-- the texts of the logical lines of what stands behind another line: a byte order mark at its front stays
+abbrev pub texts_behind : List ℕ → List (List ℕ)
+texts_behind text = map (λ (line : Line). line.text) (unfolded (lines text))
+
+-- a text without a line feed
+abbrev pub HasNoFeed : List ℕ → Type 0
+HasNoFeed text = All (λ b. (b == 10) ≡ false) text
+
+-- a text without a byte order mark at its front
+abbrev pub HasNoMark : List ℕ → Type 0
+HasNoMark text = starts_with nat_eq text (239 ∷ 187 ∷ 191 ∷ []) ≡ false
