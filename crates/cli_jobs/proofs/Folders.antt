@@ -1,5 +1,5 @@
 -- What a run takes of a job is so: its endings are endings that files may have, both its sides may be written, and no command decides conflicts.
-use Rattle.std.proofs.Common.{◌≡◌, ℕ, List, Bool, true, false, if◌then◌else◌, Option, Some, None, Result, Ok, Err, refl, ap, subst}
+use Rattle.std.proofs.Common.{◌≡◌, ℕ, List, [], ◌∷◌, Bool, true, false, if◌then◌else◌, Option, Some, None, Result, Ok, Err, refl, ap, subst}
 use Rattle.cli_words.specs.declared.words.Name.{Name}
 use Rattle.config_ini.specs.declared.error.ConfigError.{ConfigError}
 use Rattle.config_model.specs.declared.config.Config.{Config}
@@ -16,14 +16,15 @@ use Rattle.cli_jobs.specs.declared.refusal.Refusal.{Refusal}
 use Rattle.cli_jobs.specs.Answers.{lifted, ◌>>=◌, unless_found}
 use Rattle.cli_jobs.specs.Built.{unbuilt_if, has_collections, is_command, unbuilt_pair, unbuilt_storage, storage_section}
 use Rattle.cli_jobs.specs.Rules.{conflict_of}
-use Rattle.cli_jobs.specs.Names.{first_unknown, one_chosen, pair_section}
+use Rattle.cli_jobs.specs.Names.{first_unknown, is_chosen, pair_section}
 use Rattle.cli_jobs.specs.declared.refusal.Refusal.TheVariants.{NotBuilt}
 use Rattle.config_model.specs.declared.rules.ConflictRule.{ConflictRule as WrittenRule}
 use Rattle.config_model.specs.declared.rules.ConflictRule.TheVariants as written
 use Rattle.sync_plan.specs.declared.rules.ConflictRule.TheVariants.{Null, AWins, BWins, Command}
 use Rattle.std.specs.Prelude.{codes}
+use Rattle.std.specs.List.{AllByRecursion, cons_option}
 use Rattle.std.specs.Option.{option_or}
-use Rattle.cli_jobs.specs.Jobs.{storage_at, settled_texts, folder_by, folder_in, job_over, built_job, pair_job, job_by, chosen_job, job_of}
+use Rattle.cli_jobs.specs.Jobs.{storage_at, settled_texts, folder_by, folder_in, job_over, built_job, pair_job, job_if, jobs_over, chosen_jobs, jobs_of}
 use Rattle.cli_jobs.proofs.Settled.{IsFolderEnding, settled_ok}
 
 bind_ok : {A B : Type 0} (x : Result A Refusal) (f : A → Result B Refusal) (b : B) → (x >>= f) ≡ Ok b → (a : A) × (x ≡ Ok a) × (f a ≡ Ok b)
@@ -119,24 +120,40 @@ pair_job_ok home storages status pair job e =
     let b = bind_ok (storage_at storages pair.name pair.b) (λ b. built_job home status pair a.0 b) job a.2 in
     built_job_ok home status pair a.0 b.0 job b.2
 
-job_by_ok : (home : Option (List ℕ)) (storages : List StorageConf) (status : List ℕ) (pair : Option PairConf) (job : SyncJob) → job_by home storages status pair ≡ Ok (Some job) → IsRunnable job
-job_by_ok home storages status None job e = let clash : Ok None ≡ Ok (Some job) = e in absurd (cc)
-job_by_ok home storages status (Some pair) job e =
-    let found = bind_ok (pair_job home storages status pair) (λ j. Ok (Some j)) (Some job) e in
-    let same : Ok (Some found.0) ≡ Ok (Some job) = found.2 in
-    let one : found.0 ≡ job = cc in
-    subst (λ (j : SyncJob). IsRunnable j) one (pair_job_ok home storages status pair found.0 found.1)
+job_if_ok : (names : List Name) (home : Option (List ℕ)) (storages : List StorageConf) (status : List ℕ) (pair : PairConf) (job : SyncJob) → job_if names home storages status pair ≡ Ok (Some job) → IsRunnable job
+unfolding job_if
+job_if_ok names home storages status pair job e = by (is_chosen names pair) e
+  where
+    by : (chosen : Bool) → (if chosen then (pair_job home storages status pair >>= λ j. Ok (Some j)) else Ok None) ≡ Ok (Some job) → IsRunnable job
+    by true e =
+        let found = bind_ok (pair_job home storages status pair) (λ j. Ok (Some j)) (Some job) e in
+        let same : Ok (Some found.0) ≡ Ok (Some job) = found.2 in
+        let one : found.0 ≡ job = cc in
+        subst (λ (j : SyncJob). IsRunnable j) one (pair_job_ok home storages status pair found.0 found.1)
+    by false e = absurd (let clash : Ok None ≡ Ok (Some job) = e in cc)
 
-chosen_job_ok : (names : List Name) (home : Option (List ℕ)) (config : Config) (job : SyncJob) → chosen_job names home config ≡ Ok (Some job) → IsRunnable job
-unfolding chosen_job
-chosen_job_ok names home config job e =
-    let status = bind_ok (lifted (status_of config.status_path home)) (λ status. unless_found (first_unknown config.pairs names) (one_chosen names config.pairs >>= λ pair. job_by home config.storages status pair)) (Some job) e in
-    let found = unless_ok (first_unknown config.pairs names) (one_chosen names config.pairs >>= λ pair. job_by home config.storages status.0 pair) (Some job) status.2 in
-    let pair = bind_ok (one_chosen names config.pairs) (λ pair. job_by home config.storages status.0 pair) (Some job) found in
-    job_by_ok home config.storages status.0 pair.0 job pair.2
+more_runnable : (names : List Name) (home : Option (List ℕ)) (storages : List StorageConf) (status : List ℕ) (pair : PairConf) (job : Option SyncJob) (jobs : List SyncJob) → job_if names home storages status pair ≡ Ok job → AllByRecursion IsRunnable jobs → AllByRecursion IsRunnable (cons_option job jobs)
+more_runnable names home storages status pair None jobs e all = all
+more_runnable names home storages status pair (Some job) jobs e all = (job_if_ok names home storages status pair job e, all)
 
-pub is_runnable : (names : List Name) (home : Option (List ℕ)) (bytes : List ℕ) (job : SyncJob) → job_of names home bytes ≡ Ok (Some job) → IsRunnable job
-unfolding job_of
-is_runnable names home bytes job e =
-    let config = bind_ok (lifted (config_of bytes)) (λ config. chosen_job names home config) (Some job) e in
-    chosen_job_ok names home config.0 job config.2
+jobs_over_ok : (names : List Name) (home : Option (List ℕ)) (storages : List StorageConf) (status : List ℕ) (pairs : List PairConf) (jobs : List SyncJob) → jobs_over names home storages status pairs ≡ Ok jobs → AllByRecursion IsRunnable jobs
+unfolding jobs_over
+jobs_over_ok names home storages status [] jobs e = let same : [] ≡ jobs = cc in subst (λ (js : List SyncJob). AllByRecursion IsRunnable js) same tt
+jobs_over_ok names home storages status (pair ∷ pairs) jobs e =
+    let first = bind_ok (job_if names home storages status pair) (λ job. jobs_over names home storages status pairs >>= λ js. Ok (cons_option job js)) jobs e in
+    let rest = bind_ok (jobs_over names home storages status pairs) (λ js. Ok (cons_option first.0 js)) jobs first.2 in
+    let same : Ok (cons_option first.0 rest.0) ≡ Ok jobs = rest.2 in
+    let one : cons_option first.0 rest.0 ≡ jobs = cc in
+    subst (λ (js : List SyncJob). AllByRecursion IsRunnable js) one (more_runnable names home storages status pair first.0 rest.0 first.1 (jobs_over_ok names home storages status pairs rest.0 rest.1))
+
+chosen_jobs_ok : (names : List Name) (home : Option (List ℕ)) (config : Config) (jobs : List SyncJob) → chosen_jobs names home config ≡ Ok jobs → AllByRecursion IsRunnable jobs
+unfolding chosen_jobs
+chosen_jobs_ok names home config jobs e =
+    let status = bind_ok (lifted (status_of config.status_path home)) (λ status. unless_found (first_unknown config.pairs names) (jobs_over names home config.storages status config.pairs)) jobs e in
+    jobs_over_ok names home config.storages status.0 config.pairs jobs (unless_ok (first_unknown config.pairs names) (jobs_over names home config.storages status.0 config.pairs) jobs status.2)
+
+pub are_runnable : (names : List Name) (home : Option (List ℕ)) (bytes : List ℕ) (jobs : List SyncJob) → jobs_of names home bytes ≡ Ok jobs → AllByRecursion IsRunnable jobs
+unfolding jobs_of
+are_runnable names home bytes jobs e =
+    let config = bind_ok (lifted (config_of bytes)) (λ config. chosen_jobs names home config) jobs e in
+    chosen_jobs_ok names home config.0 jobs config.2

@@ -1,6 +1,6 @@
--- The job that a configuration comes to, by the names of the words and the home (this project's own).
-use Rattle.std.specs.Prelude.{ℕ, false, List, ◌++◌, codes, if◌then◌else◌, Option, Some, None, Result, Ok, Err}
-use Rattle.std.specs.List.{find}
+-- The jobs that a configuration comes to, by the names of the words and the home (this project's own).
+use Rattle.std.specs.Prelude.{ℕ, false, List, [], ◌∷◌, ◌++◌, codes, if◌then◌else◌, Option, Some, None, Result, Ok, Err}
+use Rattle.std.specs.List.{find, cons_option}
 use Rattle.std.specs.Str.{bytes_eq}
 use Rattle.cli_words.specs.declared.words.Name.{Name}
 use Rattle.config_ini.specs.declared.error.ConfigError.TheVariants.{NoStorage}
@@ -18,7 +18,7 @@ use Rattle.cli_jobs.specs.declared.job.Vdir.{Vdir as Folder}
 use Rattle.cli_jobs.specs.declared.refusal.Refusal.{Refusal}
 use Rattle.cli_jobs.specs.declared.refusal.Refusal.TheVariants.{Unusable, NotBuilt}
 use Rattle.cli_jobs.specs.Answers.{lifted, ◌>>=◌, unless_found}
-use Rattle.cli_jobs.specs.Names.{first_unknown, one_chosen}
+use Rattle.cli_jobs.specs.Names.{first_unknown, is_chosen}
 use Rattle.cli_jobs.specs.Rules.{rules_of}
 use Rattle.cli_jobs.specs.Built.{unbuilt_pair, unbuilt_storage, fetched_key, storage_section}
 
@@ -64,17 +64,23 @@ unfoldable pub pair_job : Option (List ℕ) → List StorageConf → List ℕ �
 pair_job home storages status pair =
     storage_at storages pair.name pair.a >>= λ a. storage_at storages pair.name pair.b >>= λ b. built_job home status pair a b
 
-abbrev pub job_by : Option (List ℕ) → List StorageConf → List ℕ → Option PairConf → Result (Option SyncJob) Refusal
-job_by home storages status None = Ok None
-job_by home storages status (Some pair) = pair_job home storages status pair >>= λ job. Ok (Some job)
+-- the job of a pair, where the names choose it
+unfoldable pub job_if : List Name → Option (List ℕ) → List StorageConf → List ℕ → PairConf → Result (Option SyncJob) Refusal
+job_if names home storages status pair = if is_chosen names pair then (pair_job home storages status pair >>= λ job. Ok (Some job)) else Ok None
+
+-- the jobs of the pairs that the names choose, in the order of the pairs
+unfoldable pub jobs_over : List Name → Option (List ℕ) → List StorageConf → List ℕ → List PairConf → Result (List SyncJob) Refusal
+jobs_over names home storages status [] = Ok []
+jobs_over names home storages status (pair ∷ pairs) =
+    job_if names home storages status pair >>= λ job. jobs_over names home storages status pairs >>= λ jobs. Ok (cons_option job jobs)
 
 -- the names are looked at behind the status path, and behind them what isn't built
-unfoldable pub chosen_job : List Name → Option (List ℕ) → Config → Result (Option SyncJob) Refusal
-chosen_job names home config =
+unfoldable pub chosen_jobs : List Name → Option (List ℕ) → Config → Result (List SyncJob) Refusal
+chosen_jobs names home config =
     lifted (status_of config.status_path home) >>= λ status.
     unless_found (first_unknown config.pairs names)
-    (one_chosen names config.pairs >>= λ pair. job_by home config.storages status pair)
+    (jobs_over names home config.storages status config.pairs)
 
--- the job that the bytes of a configuration come to; none where no pair is chosen
-unfoldable pub job_of : List Name → Option (List ℕ) → List ℕ → Result (Option SyncJob) Refusal
-job_of names home bytes = lifted (config_of bytes) >>= λ config. chosen_job names home config
+-- the jobs that the bytes of a configuration come to; none where no pair is chosen
+unfoldable pub jobs_of : List Name → Option (List ℕ) → List ℕ → Result (List SyncJob) Refusal
+jobs_of names home bytes = lifted (config_of bytes) >>= λ config. chosen_jobs names home config

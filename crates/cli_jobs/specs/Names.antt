@@ -1,5 +1,5 @@
 -- Which pairs the names of the words choose, and which names name none (this project's own).
-use Rattle.std.specs.Prelude.{◌==◌, ◌||◌, ℕ, Bool, List, [], ◌∷◌, ◌++◌, length, codes, if◌then◌else◌, Option, Some, None, Result, Ok, Err}
+use Rattle.std.specs.Prelude.{◌==◌, ◌||◌, ℕ, Bool, List, [], ◌∷◌, ◌++◌, length, codes, Option, Some, None}
 use Rattle.std.specs.List.{find, list_any}
 use Rattle.std.specs.Option.{option_or}
 use Rattle.std.specs.Str.{bytes_eq}
@@ -7,7 +7,7 @@ use Rattle.cli_words.specs.declared.words.Name.{Name}
 use Rattle.config_model.specs.declared.config.PairConf.{PairConf}
 use Rattle.config_model.specs.declared.wanted.Wanted.{Wanted}
 use Rattle.cli_jobs.specs.declared.refusal.Refusal.{Refusal}
-use Rattle.cli_jobs.specs.declared.refusal.Refusal.TheVariants.{NoPair, NoCollection, NotBuilt}
+use Rattle.cli_jobs.specs.declared.refusal.Refusal.TheVariants.{NoPair, NoCollection}
 
 -- a pair without collections has none of any name; the collections of others are in their kept list, and aren't looked at here
 abbrev pub unknown_in : List ℕ → Option (List Wanted) → List ℕ → Option Refusal
@@ -37,13 +37,3 @@ is_chosen names pair = (length names == 0) || list_any (λ n. bytes_eq n.first p
 
 abbrev pub pair_section : List ℕ → List ℕ
 pair_section name = codes "pair " ++ name
-
--- one pair is run: a second that is chosen isn't built
-abbrev pub alone : PairConf → Option PairConf → Result (Option PairConf) Refusal
-alone pair None = Ok (Some pair)
-alone pair (Some other) = Err (NotBuilt (pair_section other.name) (codes "beside another pair"))
-
--- the pair that is chosen, if any is
-unfoldable pub one_chosen : List Name → List PairConf → Result (Option PairConf) Refusal
-one_chosen names [] = Ok None
-one_chosen names (pair ∷ pairs) = if is_chosen names pair then alone pair (find (λ p. is_chosen names p) pairs) else one_chosen names pairs

@@ -1,8 +1,8 @@
-//! The job that a configuration comes to.
+//! The jobs that a configuration comes to.
 
-ghost use Rattle.std.specs.Prelude.{◌≡◌, ◌≢◌, ◌++◌, true, false, codes, string_bytes, Ok, Err, IfOk, MatchResult};
+ghost use Rattle.std.specs.Prelude.{◌≡◌, ◌≢◌, ◌++◌, [], true, false, codes, string_bytes, Ok, Err, IfOk, OnOk, MatchResult};
 ghost use Rattle.std.specs.Option.{option_copied};
-ghost use Rattle.std.specs.List.{find};
+ghost use Rattle.std.specs.List.{find, cons_option};
 ghost use Rattle.std.specs.Str.{bytes_eq};
 ghost use Rattle.config_ini.specs.declared.error.ConfigError.TheVariants.{NoStorage};
 ghost use Rattle.config_model.specs.Reading.{config_of};
@@ -15,7 +15,7 @@ ghost use Rattle.cli_jobs.specs.Jobs as spec;
 
 use crate::built::{are_texts, check_pair, check_storage, fetch_not_built};
 use crate::job::{SyncJob, Vdir};
-use crate::names::{check_names, one_chosen};
+use crate::names::{check_names, is_chosen};
 use crate::refusal::Refusal;
 use crate::refused::{not_built, storage_section, unusable};
 use crate::rules::rules_of;
@@ -24,7 +24,7 @@ use config_ini::ConfigError;
 use config_model::{Config, PairConf, StorageConf, read_config};
 use config_settle::{Settled, normalised, settle, settle_status};
 use std::alloc::{AllocError, Global};
-use values::Text;
+use values::{Sequence, Text};
 
 fn read(alloc: Global, bytes: &[u8]) -> Result<Config, Refusal>
     ensures { Comes (lifted (config_of bytes.now)) result }
@@ -219,62 +219,95 @@ fn pair_job(
     built_job(alloc, home, status, pair, a, b)
 }
 
-fn job_by(
-    alloc: Global,
-    home: Option<&str>,
-    storages: &[StorageConf],
-    status: &str,
-    pair: Option<&PairConf>,
-) -> Result<Option<SyncJob>, Refusal>
-    ensures { Comes (spec.job_by (option_copied home.entry) storages.now status.now (option_copied pair.entry)) result }
-{
-    match pair {
-        None => Ok(None),
-        Some(pair) => match pair_job(alloc, home, storages, status, pair) {
-            Ok(job) => Ok(Some(job)),
-            Err(refusal) => Err(refusal),
-        },
-    }
-}
-
-#[tactic(auto, unfolding(crate::specs::Jobs::chosen_job))]
-fn chosen_job(
+/// The job of a pair, where the names choose it.
+#[tactic(auto, unfolding(crate::specs::Jobs::job_if))]
+fn job_if(
     alloc: Global,
     names: &[Name],
     home: Option<&str>,
-    config: &Config,
+    storages: &[StorageConf],
+    status: &str,
+    pair: &PairConf,
 ) -> Result<Option<SyncJob>, Refusal>
-    ensures { Comes (spec.chosen_job names.now (option_copied home.entry) config.now) result }
+    ensures { Comes (spec.job_if names.now (option_copied home.entry) storages.now status.now pair.now) result }
 {
-    let status = status_of(alloc, config.status_path.as_str(), home)?;
-    let pairs = config.pairs.as_slice();
-    check_names(alloc, pairs, names)?;
-    match one_chosen(alloc, names, pairs) {
-        Ok(pair) => job_by(
-            alloc,
-            home,
-            config.storages.as_slice(),
-            status.as_str(),
-            pair,
-        ),
+    if !is_chosen(names, pair) {
+        return Ok(None);
+    }
+    match pair_job(alloc, home, storages, status, pair) {
+        Ok(job) => Ok(Some(job)),
         Err(refusal) => Err(refusal),
     }
 }
 
-/// The job that the bytes of a configuration come to, for the pair that the names choose; none where no pair is chosen.
-/// Refused in this order: what the configuration is refused for, its status path, a name that names nothing, what isn't
-/// built of the pair, what the texts of its storages are refused for, and what isn't built of these.
-#[tactic(auto, unfolding(crate::specs::Jobs::job_of))]
-pub fn job_of(
+fn add(jobs: &mut Sequence<SyncJob>, job: Option<SyncJob>) -> Result<(), AllocError>
+    ensures { OnOk result (jobs.new ≡ jobs.old ++ cons_option job []) }
+{
+    match job {
+        Some(job) => jobs.push(job),
+        None => Ok(()),
+    }
+}
+
+/// The jobs of the pairs that the names choose, in the order of the pairs.
+#[tactic(auto, unfolding(crate::specs::Jobs::jobs_over))]
+fn jobs_over(
+    alloc: Global,
+    names: &[Name],
+    home: Option<&str>,
+    storages: &[StorageConf],
+    status: &str,
+    pairs: &[PairConf],
+) -> Result<Sequence<SyncJob>, Refusal>
+    ensures { Comes (spec.jobs_over names.now (option_copied home.entry) storages.now status.now pairs.now) result }
+{
+    let mut jobs = Sequence::new(alloc);
+    for pair in pairs {
+        match job_if(alloc, names, home, storages, status, pair) {
+            Ok(job) => add(&mut jobs, job)?,
+            Err(refusal) => return Err(refusal),
+        }
+    }
+    Ok(jobs)
+}
+
+#[tactic(auto, unfolding(crate::specs::Jobs::chosen_jobs))]
+fn chosen_jobs(
+    alloc: Global,
+    names: &[Name],
+    home: Option<&str>,
+    config: &Config,
+) -> Result<Sequence<SyncJob>, Refusal>
+    ensures { Comes (spec.chosen_jobs names.now (option_copied home.entry) config.now) result }
+{
+    let status = status_of(alloc, config.status_path.as_str(), home)?;
+    let pairs = config.pairs.as_slice();
+    check_names(alloc, pairs, names)?;
+    jobs_over(
+        alloc,
+        names,
+        home,
+        config.storages.as_slice(),
+        status.as_str(),
+        pairs,
+    )
+}
+
+/// The jobs that the bytes of a configuration come to, for the pairs that the names choose, in the order of the
+/// configuration; none where no pair is chosen. Refused in this order: what the configuration is refused for, its status
+/// path, a name that names nothing; then pair by pair what isn't built of the pair, what the texts of its storages are
+/// refused for, and what isn't built of these.
+#[tactic(auto, unfolding(crate::specs::Jobs::jobs_of))]
+pub fn jobs_of(
     alloc: Global,
     names: &[Name],
     home: Option<&str>,
     bytes: &[u8],
-) -> Result<Option<SyncJob>, Refusal>
-    ensures { Comes (spec.job_of names.now (option_copied home.entry) bytes.now) result }
+) -> Result<Sequence<SyncJob>, Refusal>
+    ensures { Comes (spec.jobs_of names.now (option_copied home.entry) bytes.now) result }
 {
     match read(alloc, bytes) {
-        Ok(config) => chosen_job(alloc, names, home, &config),
+        Ok(config) => chosen_jobs(alloc, names, home, &config),
         Err(refusal) => Err(refusal),
     }
 }

@@ -1,4 +1,4 @@
-//! What the words and a configuration come to: a job, or why there is none.
+//! What the words and a configuration come to: jobs, or why there are none.
 #![tactic(auto)]
 
 mod built;
@@ -11,6 +11,6 @@ mod rules;
 mod texts;
 
 pub use job::SyncJob;
-pub use jobs::job_of;
+pub use jobs::jobs_of;
 pub use refusal::Refusal;
 pub use texts::refusal_text;

@@ -1,5 +1,5 @@
--- A run of the program keeps the promise of its job, and where it is undisturbed over a ready job it leaves that clean, or memory ran out.
-use Rattle.std.proofs.Common.{◌≡◌, ◌≢◌, ◌⊎◌, ◌&&◌, ◌||◌, not, if◌then◌else◌, Bool, inl, inr, ℕ, true, false, List, [], ◌∷◌, ◌++◌, length, Option, Some, None, Result, Ok, Err, refl, sym, ◌∙◌, ap, subst, append-nil, arith}
+-- A run of the program keeps the promise of its jobs, and where it is undisturbed over jobs that are ready it leaves each clean, or memory ran out.
+use Rattle.std.proofs.Common.{◌≡◌, ◌≢◌, ◌⊎◌, ◌&&◌, ◌||◌, not, if◌then◌else◌, Bool, inl, inr, ℕ, true, false, List, [], ◌∷◌, ◌++◌, length, Some, None, Result, Ok, Err, refl, sym, ◌∙◌, ap, subst, append-nil, arith}
 use Rattle.outside.specs.Runs.{Leads, Runs}
 use Rattle.outside.specs.Files as folders
 use Rattle.outside.specs.Files.{FolderState}
@@ -28,13 +28,15 @@ use Rattle.vdirsyncer_cli.specs.Jobs.{IsQuietJob, Ran, JobAt, span_in}
 use Rattle.vdirsyncer_cli.proofs.JobLaws.{job_in, keeps_promise}
 use Rattle.vdirsyncer_cli.specs.Places.{Places, place_at}
 use Rattle.vdirsyncer_cli.specs.Printing.{Prints}
-use Rattle.vdirsyncer_cli.specs.Runs.{Ended, Did, WordsRun, ComesTo, comes_to, job_to_run, out_text, err_text, after_job, job_status, status_of}
-use Rattle.vdirsyncer_cli.specs.Runs.Ended.{WrongWords, HelpAsked, WordsRefused, FileRefused, ConfigRefused, NothingChosen, OutOfMemory, JobEnded}
+use Rattle.vdirsyncer_cli.specs.JobLists.{job_to_run, JobsRun, texts_of}
+use Rattle.vdirsyncer_cli.specs.Runs.{Ended, Did, WordsRun, ComesTo, comes_to, out_text, err_text, is_write_fault, status_of}
+use Rattle.vdirsyncer_cli.specs.Runs.Ended.{WrongWords, HelpAsked, WordsRefused, FileRefused, ConfigRefused, OutOfMemory, JobsEnded, JobsStarved}
 use Rattle.cli_text.specs.Texts.{report_text, ident_line, end_text}
-use Rattle.cli_text.specs.Exits.{is_starved_end, is_synced_end}
-use Rattle.std.specs.List.{flat_map}
+use Rattle.cli_text.specs.Exits.{is_starved_end, is_starved, is_synced_end, is_clean, exit_status}
+use Rattle.std.specs.List.{AllByRecursion, flat_map, list_all, list_any}
+use Rattle.outside.specs.StreamCalls.{AddsFront}
 use Rattle.vdirsyncer_cli.specs.Files.{folder_of, name_of}
-use Rattle.vdirsyncer_cli.specs.CleanRuns.{IsInside, IsKept, IsQuietReading, IsCleanJob, IsUndisturbed, AnswersBy, LeavesClean, PromisedRun, SinkIsStill, SinkIsSilent}
+use Rattle.vdirsyncer_cli.specs.CleanRuns.{IsInside, AllKept, IsKept, IsQuietReading, IsCleanJob, AreCleanJobs, IsUndisturbed, AreLineless, AnswersBy, LeaveJobs, LeavesClean, PromisedRun, SinkIsStill, SinkIsSilent}
 
 folder_keeps : KeepsEvents folders.happens
 folder_keeps =
@@ -93,19 +95,26 @@ not_refused old now tells wanted error quiet read not_memory = by error not_memo
     by file_error.Fault not no_fault says = no_fault refl
     by file_error.NoMemory not no_fault says = not refl
 
--- what it comes to is its job
-comes_to_its_job : (old now : Places) (tells : List ℕ → Type 0) (what : Asked) (wanted : Wanted) (answer : Result (Option SyncJob) Refusal) → (quiet : IsQuietReading old now tells wanted) → ComesTo old now tells what wanted answer → answer ≡ Ok (Some quiet.job)
-comes_to_its_job old now tells what wanted answer quiet comes =
+-- what it comes to is its jobs
+comes_to_its_jobs : (old now : Places) (tells : List ℕ → Type 0) (what : Asked) (wanted : Wanted) (answer : Result (List SyncJob) Refusal) → (quiet : IsQuietReading old now tells wanted) → ComesTo old now tells what wanted answer → answer ≡ Ok quiet.jobs
+comes_to_its_jobs old now tells what wanted answer quiet comes =
     let file = reads_at old now tells wanted (Ok comes.bytes) quiet comes.reads.read in
     let same : Some comes.bytes ≡ Some quiet.bytes = sym file.stood ∙ quiet.stands in
     let one : comes.bytes ≡ quiet.bytes = cc in
     sym comes.comes ∙ (ap (comes_to wanted) one ∙ quiet.comes)
 
+front_of_nothing : (old new text : List ℕ) → text ≡ [] → AddsFront old new text → new ≡ old
+front_of_nothing old new text none adds = by adds.front (sym adds.is_front ∙ none) adds.adds
+  where
+    by : (front : List ℕ) → front ++ adds.rest ≡ [] → new ≡ old ++ front → new ≡ old
+    by [] e h = h ∙ append-nil old
+    by (b ∷ bs) e h = absurd (let clash : b ∷ (bs ++ adds.rest) ≡ [] = e in cc)
+
 -- a text that isn't there, printed to a sink that is still
 printed_nothing : {S : Type 0} (count : S → ℕ) (tells : S → Type 0) (held : S → List ℕ) (old new : S) (text : List ℕ) (cut : Cut) → text ≡ [] → SinkIsStill count old new → Prints count tells held old new text cut → SinkIsSilent tells held old new
 printed_nothing count tells held old new text Whole none still prints told = (prints.1 told).1 ∙ (ap (λ (l : List ℕ). held old ++ l) none ∙ append-nil (held old))
 printed_nothing count tells held old new text WriteFault none still prints told = absurd (still prints.1)
-printed_nothing count tells held old new text Starved none still prints told = (prints.1 told).1
+printed_nothing count tells held old new text Starved none still prints told = front_of_nothing (held old) (held new) text none (prints.1 told).1
 
 no_write_fault : {S : Type 0} (count : S → ℕ) (tells : S → Type 0) (held : S → List ℕ) (old new : S) (text : List ℕ) (cut : Cut) → SinkIsStill count old new → Prints count tells held old new text cut → cut ≡ WriteFault → ⊥
 no_write_fault count tells held old new text Whole still prints is = cc
@@ -130,96 +139,158 @@ job_is_clean between new tells tells' job report (inl ran) clean =
       | inr (inr ends) ↦ inr ends
     ]
 
--- the exit status of one job
-abbrev exit_of : JobEnd → List Line → Bool → ℕ
-exit_of end lines write_fault =
-    if is_starved_end end || false then 3 else (if (is_synced_end end lines && true) && not write_fault then 0 else 1)
+-- ---- all jobs
+
+-- memory ended one, or each is in sync
+abbrev AreSynced : List Report → Type 0
+AreSynced reports = AllByRecursion (λ report. report.end ≡ Synced) reports
+
+starved_any : (report : Report) (reports : List Report) → report.end ≡ NoMemory → list_any is_starved (report ∷ reports) ≡ true
+starved_any report reports end = ap (λ (e : JobEnd). is_starved_end e || list_any is_starved reports) end
+
+later_any : (report : Report) (reports : List Report) → list_any is_starved reports ≡ true → list_any is_starved (report ∷ reports) ≡ true
+later_any report reports later = ap (λ (b : Bool). is_starved report || b) later ∙ or_true (is_starved report)
+  where
+    or_true : (b : Bool) → (b || true) ≡ true
+    or_true true = refl
+    or_true false = refl
+
+-- each job of an undisturbed run is clean, or memory ended one
+pub record AllClean {O : Type 0} (places : O → Places) (tells : O → List ℕ → Type 0) (force : Bool) (old new : O) (jobs : List SyncJob) (reports : List Report) (ran : JobsRun places tells force old new jobs reports) : Type 0 where
+  pub synced : AreSynced reports
+  pub leave : LeaveJobs places tells force old new jobs reports ran
+
+jobs_are_clean : {O : Type 0} (places : O → Places) (tells : O → List ℕ → Type 0) (force : Bool) (old new : O) (jobs : List SyncJob) (reports : List Report) (ran : JobsRun places tells force old new jobs reports) → AreCleanJobs places tells force old new jobs reports ran →
+    (list_any is_starved reports ≡ true) ⊎ AllClean places tells force old new jobs reports ran
+jobs_are_clean places tells force old new [] [] ran clean = inr (record { synced = tt; leave = tt })
+jobs_are_clean places tells force old new (job ∷ jobs) [] ran clean = inr (record { synced = tt; leave = tt })
+jobs_are_clean places tells force old new [] (report ∷ reports) ran clean = absurd ran
+jobs_are_clean places tells force old new (job ∷ jobs) (report ∷ reports) ran clean =
+    elim (job_is_clean (places old) (places ran.0) (tells old) (tells ran.0) (job_to_run force job) report ran.1 clean.0) [
+      | inl starved ↦ inl (starved_any report reports starved)
+      | inr ends ↦ elim (jobs_are_clean places tells force ran.0 new jobs reports ran.2 clean.1) [
+        | inl later ↦ inl (later_any report reports later)
+        | inr all ↦ inr (record { synced = (ends.synced, all.synced); leave = (((clean.0).rows, ((clean.0).ready).kept, ends), all.leave) })
+      ]
+    ]
+
+-- ---- the exit status
+
+none_starved : (reports : List Report) → AreSynced reports → list_any is_starved reports ≡ false
+none_starved [] synced = refl
+none_starved (report ∷ reports) synced = ap (λ (e : JobEnd). is_starved_end e || list_any is_starved reports) synced.0 ∙ none_starved reports synced.1
 
 -- lines there are none, or some
 no_lines_or : (lines : List Line) → (lines ≡ []) ⊎ (lines ≢ [])
 no_lines_or [] = inl refl
 no_lines_or (line ∷ lines) = inr (λ is. let clash : line ∷ lines ≡ [] = is in cc)
 
--- the exit status of a job whose text was not cut short: of one that memory ended, of one in sync without lines, and of one in sync with lines
-starved_is : (report : Report) (cut : Cut) (result : ℕ) → (cut ≡ WriteFault → ⊥) → result ≡ job_status report cut → report.end ≡ NoMemory → result ≡ 3
-starved_is report Starved result no_fault is end = is
-starved_is report WriteFault result no_fault is end = absurd (no_fault refl)
-starved_is report Whole result no_fault is end = is ∙ ap (λ (e : JobEnd). exit_of e report.lines.items false) end
+lineless_or : (reports : List Report) → AreLineless reports ⊎ (AreLineless reports → ⊥)
+lineless_or [] = inl tt
+lineless_or (report ∷ reports) = elim (no_lines_or report.lines.items) [
+  | inl none ↦ elim (lineless_or reports) [ inl all ↦ inl (none, all) | inr some ↦ inr (λ all. some all.1) ]
+  | inr some ↦ inr (λ all. some all.0)
+]
 
-clean_is : (report : Report) (cut : Cut) (result : ℕ) → (cut ≡ WriteFault → ⊥) → result ≡ job_status report cut → report.end ≡ Synced → report.lines.items ≡ [] → (result ≡ 3) ⊎ ((result ≡ 0) × (cut ≡ Whole))
-clean_is report Starved result no_fault is end lines = inl is
-clean_is report WriteFault result no_fault is end lines = absurd (no_fault refl)
-clean_is report Whole result no_fault is end lines = inr (is ∙ (ap (λ (e : JobEnd). exit_of e report.lines.items false) end ∙ ap (λ (l : List Line). exit_of Synced l false) lines), refl)
+clean_end : (end : JobEnd) (lines : List Line) → end ≡ Synced → lines ≡ [] → is_synced_end end lines ≡ true
+clean_end end lines synced none = ap (λ (e : JobEnd). is_synced_end e lines) synced ∙ ap (λ (l : List Line). is_synced_end Synced l) none
 
-one_by : (lines : List Line) → lines ≢ [] → exit_of Synced lines false ≡ 1
-one_by [] some = absurd (some refl)
-one_by (line ∷ lines) some = refl
+told_end : (end : JobEnd) (lines : List Line) → end ≡ Synced → lines ≢ [] → is_synced_end end lines ≡ false
+told_end end [] synced some = absurd (some refl)
+told_end end (line ∷ lines) synced some = ap (λ (e : JobEnd). is_synced_end e (line ∷ lines)) synced
 
-told_is : (report : Report) (cut : Cut) (result : ℕ) → (cut ≡ WriteFault → ⊥) → result ≡ job_status report cut → report.end ≡ Synced → report.lines.items ≢ [] → (result ≡ 3) ⊎ (result ≡ 1)
-told_is report Starved result no_fault is end some = inl is
-told_is report WriteFault result no_fault is end some = absurd (no_fault refl)
-told_is report Whole result no_fault is end some = inr (is ∙ (ap (λ (e : JobEnd). exit_of e report.lines.items false) end ∙ one_by report.lines.items some))
+all_clean : (reports : List Report) → AreSynced reports → AreLineless reports → list_all is_clean reports ≡ true
+all_clean [] synced none = refl
+all_clean (report ∷ reports) synced none = ap (λ (b : Bool). b && list_all is_clean reports) (clean_end report.end report.lines.items synced.0 none.0) ∙ all_clean reports synced.1 none.1
+
+not_all_clean : (reports : List Report) → AreSynced reports → (AreLineless reports → ⊥) → list_all is_clean reports ≡ false
+not_all_clean [] synced some = absurd (some tt)
+not_all_clean (report ∷ reports) synced some = elim (no_lines_or report.lines.items) [
+  | inl none ↦ ap (λ (b : Bool). b && list_all is_clean reports) (clean_end report.end report.lines.items synced.0 none) ∙ not_all_clean reports synced.1 (λ all. some (none, all))
+  | inr told ↦ ap (λ (b : Bool). b && list_all is_clean reports) (told_end report.end report.lines.items synced.0 told)
+]
+
+abbrev exit_by : Bool → Bool → Bool → ℕ
+exit_by starved clean write_fault = if starved then 3 else (if clean && not write_fault then 0 else 1)
+
+exits : (reports : List Report) (starved clean write_fault : Bool) → list_any is_starved reports ≡ starved → list_all is_clean reports ≡ clean → exit_status reports write_fault ≡ exit_by starved clean write_fault
+exits reports starved clean write_fault is_starved is_clean = ap (λ (b : Bool). exit_by b (list_all is_clean_report reports) write_fault) is_starved ∙ ap (λ (b : Bool). exit_by starved b write_fault) is_clean
+  where
+    is_clean_report : Report → Bool
+    is_clean_report = λ report. is_synced_end report.end report.lines.items
+
+no_fault_by : (cut : Cut) → (cut ≡ WriteFault → ⊥) → is_write_fault cut ≡ false
+no_fault_by Whole not = refl
+no_fault_by WriteFault not = absurd (not refl)
+no_fault_by Starved not = refl
 
 no_text : (name : List ℕ) (report : Report) → report.end ≡ Synced → report.lines.items ≡ [] → report_text name report ≡ []
 unfolding report_text
 no_text name report end lines = ap (λ (l : List Line). flat_map (ident_line name) l ++ end_text name report.end) lines ∙ ap (end_text name) end
 
-kept_run : (old new : Places) (tells tells' : List ℕ → Type 0) (what : Asked) (ended : Ended) (did : Did old new tells tells' what ended) → IsKept old new tells tells' what ended did
-kept_run old new tells tells' what WrongWords did = tt
-kept_run old new tells tells' what HelpAsked did = tt
-kept_run old new tells tells' what (WordsRefused line) did = tt
-kept_run old new tells tells' what (FileRefused wanted e) did = tt
-kept_run old new tells tells' what (ConfigRefused wanted r) did = tt
-kept_run old new tells tells' what (NothingChosen wanted) did = tt
-kept_run old new tells tells' what OutOfMemory did = tt
-kept_run old new tells tells' what (JobEnded wanted job report) did = keeps_promise did.0 new tells tells' (job_to_run wanted.force_delete job) report did.2
+no_texts : (jobs : List SyncJob) (reports : List Report) → AreSynced reports → AreLineless reports → texts_of jobs reports ≡ []
+no_texts [] [] synced none = refl
+no_texts (job ∷ jobs) [] synced none = refl
+no_texts [] (report ∷ reports) synced none = refl
+no_texts (job ∷ jobs) (report ∷ reports) synced none = ap (λ (t : List ℕ). t ++ texts_of jobs reports) (no_text job.pair report synced.0 none.0) ∙ no_texts jobs reports synced.1 none.1
 
-pub promised_run : {S E : Type 0} (count_s : S → ℕ) (tells_s : S → Type 0) (held_s : S → List ℕ) (out out' : S) (count_e : E → ℕ) (tells_e : E → Type 0) (held_e : E → List ℕ) (err err' : E) (old new : Places) (tells tells' : List ℕ → Type 0) (what : Asked) (result : ℕ) →
-    WordsRun old new tells tells' what (Prints count_s tells_s held_s out out') (Prints count_e tells_e held_e err err') result →
-    PromisedRun old new tells tells' what (Prints count_s tells_s held_s out out') (Prints count_e tells_e held_e err err') (SinkIsStill count_s out out' × SinkIsStill count_e err err') (SinkIsSilent tells_s held_s out out' × SinkIsSilent tells_e held_e err err') result
-promised_run {S} {E} count_s tells_s held_s out out' count_e tells_e held_e err err' old new tells tells' what result run =
+-- ---- the whole run
+
+all_kept : {O : Type 0} (places : O → Places) (tells : O → List ℕ → Type 0) (force : Bool) (old new : O) (jobs : List SyncJob) (reports : List Report) (ran : JobsRun places tells force old new jobs reports) → AllKept places tells force old new jobs reports ran
+all_kept places tells force old new [] [] ran = tt
+all_kept places tells force old new (job ∷ jobs) [] ran = tt
+all_kept places tells force old new [] (report ∷ reports) ran = tt
+all_kept places tells force old new (job ∷ jobs) (report ∷ reports) ran = (keeps_promise (places old) (places ran.0) (tells old) (tells ran.0) (job_to_run force job) report ran.1, all_kept places tells force ran.0 new jobs reports ran.2)
+
+kept_run : {O : Type 0} (places : O → Places) (tells : O → List ℕ → Type 0) (old new : O) (what : Asked) (ended : Ended) (did : Did places tells old new what ended) → IsKept places tells old new what ended did
+kept_run places tells old new what WrongWords did = tt
+kept_run places tells old new what HelpAsked did = tt
+kept_run places tells old new what (WordsRefused line) did = tt
+kept_run places tells old new what (FileRefused wanted e) did = tt
+kept_run places tells old new what (ConfigRefused wanted r) did = tt
+kept_run places tells old new what OutOfMemory did = tt
+kept_run places tells old new what (JobsEnded wanted jobs reports) did = all_kept places tells wanted.force_delete (did.0).between new jobs reports (did.0).ran
+kept_run places tells old new what (JobsStarved wanted jobs reports) did = all_kept places tells wanted.force_delete did.between new jobs reports did.ran
+
+pub promised_run : {O S E : Type 0} (count_s : S → ℕ) (tells_s : S → Type 0) (held_s : S → List ℕ) (out out' : S) (count_e : E → ℕ) (tells_e : E → Type 0) (held_e : E → List ℕ) (err err' : E) (places : O → Places) (tells : O → List ℕ → Type 0) (old new : O) (what : Asked) (result : ℕ) →
+    WordsRun places tells old new what (Prints count_s tells_s held_s out out') (Prints count_e tells_e held_e err err') result →
+    PromisedRun places tells old new what (Prints count_s tells_s held_s out out') (Prints count_e tells_e held_e err err') (SinkIsStill count_s out out' × SinkIsStill count_e err err') (SinkIsSilent tells_s held_s out out' × SinkIsSilent tells_e held_e err err') result
+promised_run {O} {S} {E} count_s tells_s held_s out out' count_e tells_e held_e err err' places tells old new what result run =
     record {
       run = run;
-      kept = kept_run old new tells tells' what run.ended run.did;
+      kept = kept_run places tells old new what run.ended run.did;
       complete = λ still quiet. at run.ended run.did run.out_cut run.err_cut run.printed run.told run.status still quiet;
     }
   where
     Silent : Type 0
     Silent = SinkIsSilent tells_s held_s out out' × SinkIsSilent tells_e held_e err err'
 
-    -- a clean job's status and texts
-    answers : (pair : List ℕ) (report : Report) (out_cut err_cut : Cut) → Prints count_s tells_s held_s out out' (report_text pair report) out_cut → Prints count_e tells_e held_e err err' (after_job out_cut) err_cut → result ≡ job_status report out_cut →
-        SinkIsStill count_s out out' → SinkIsStill count_e err err' → report.end ≡ Synced → (report.lines.items ≡ []) ⊎ (report.lines.items ≢ []) → (result ≡ 3) ⊎ AnswersBy report result Silent
-    answers pair report out_cut err_cut printed told status still_s still_e synced (inl none) =
-        elim (clean_is report out_cut result (no_write_fault count_s tells_s held_s out out' (report_text pair report) out_cut still_s printed) status synced none) [
-          | inl three ↦ inl three
-          | inr fine ↦
-              let silent_s = printed_nothing count_s tells_s held_s out out' (report_text pair report) out_cut (no_text pair report synced none) still_s printed in
-              let silent_e = printed_nothing count_e tells_e held_e err err' (after_job out_cut) err_cut (ap after_job fine.1) still_e told in
-              inr (inl (none, fine.0, (silent_s, silent_e)))
-        ]
-    answers pair report out_cut err_cut printed told status still_s still_e synced (inr some) =
-        elim (told_is report out_cut result (no_write_fault count_s tells_s held_s out out' (report_text pair report) out_cut still_s printed) status synced some) [
-          | inl three ↦ inl three
-          | inr one ↦ inr (inr (some, one))
-        ]
+    -- the status and the texts of jobs in sync
+    answers : (jobs : List SyncJob) (reports : List Report) (out_cut err_cut : Cut) → Prints count_s tells_s held_s out out' (texts_of jobs reports) out_cut → Prints count_e tells_e held_e err err' [] err_cut → result ≡ exit_status reports (is_write_fault out_cut) →
+        SinkIsStill count_s out out' → SinkIsStill count_e err err' → AreSynced reports → AnswersBy reports result Silent
+    answers jobs reports out_cut err_cut printed told status still_s still_e synced = elim (lineless_or reports) [
+      | inl none ↦
+          let silent_s = printed_nothing count_s tells_s held_s out out' (texts_of jobs reports) out_cut (no_texts jobs reports synced none) still_s printed in
+          let silent_e = printed_nothing count_e tells_e held_e err err' [] err_cut refl still_e told in
+          inl (none, status ∙ (exits reports false true (is_write_fault out_cut) (none_starved reports synced) (all_clean reports synced none) ∙ ap (exit_by false true) no_fault), (silent_s, silent_e))
+      | inr some ↦ inr (some, status ∙ exits reports false false (is_write_fault out_cut) (none_starved reports synced) (not_all_clean reports synced some))
+    ]
+      where
+        no_fault : is_write_fault out_cut ≡ false
+        no_fault = no_fault_by out_cut (no_write_fault count_s tells_s held_s out out' (texts_of jobs reports) out_cut still_s printed)
 
-    at : (ended : Ended) (did : Did old new tells tells' what ended) (out_cut err_cut : Cut) → Prints count_s tells_s held_s out out' (out_text ended) out_cut → Prints count_e tells_e held_e err err' (err_text ended out_cut) err_cut → result ≡ status_of ended out_cut → SinkIsStill count_s out out' × SinkIsStill count_e err err' → IsUndisturbed old new tells tells' what ended did →
-        (result ≡ 3) ⊎ LeavesClean old new tells tells' what ended did result Silent
+    at : (ended : Ended) (did : Did places tells old new what ended) (out_cut err_cut : Cut) → Prints count_s tells_s held_s out out' (out_text ended) out_cut → Prints count_e tells_e held_e err err' (err_text ended) err_cut → result ≡ status_of ended out_cut → SinkIsStill count_s out out' × SinkIsStill count_e err err' → IsUndisturbed places tells old new what ended did →
+        (result ≡ 3) ⊎ LeavesClean places tells old new what ended did result Silent
     at WrongWords did out_cut err_cut printed told status still quiet = absurd quiet
     at HelpAsked did out_cut err_cut printed told status still quiet = absurd quiet
     at (WordsRefused line) did out_cut err_cut printed told status still quiet = absurd quiet
-    at (FileRefused wanted e) did out_cut err_cut printed told status still quiet = absurd (not_refused old new tells wanted e quiet (did.0).read did.1)
+    at (FileRefused wanted e) did out_cut err_cut printed told status still quiet = absurd (not_refused (places old) (places new) (tells old) wanted e quiet (did.0).read did.1)
     at (ConfigRefused wanted r) did out_cut err_cut printed told status still quiet =
-        let clash : Err r ≡ Ok (Some quiet.job) = comes_to_its_job old new tells what wanted (Err r) quiet did.0 in absurd (cc)
-    at (NothingChosen wanted) did out_cut err_cut printed told status still quiet =
-        let clash : Ok None ≡ Ok (Some quiet.job) = comes_to_its_job old new tells what wanted (Ok None) quiet did.0 in absurd (cc)
+        let clash : Err r ≡ Ok quiet.jobs = comes_to_its_jobs (places old) (places new) (tells old) what wanted (Err r) quiet did.0 in absurd (cc)
     at OutOfMemory did out_cut err_cut printed told status still quiet = inl status
-    at (JobEnded wanted named report) did out_cut err_cut printed told status still quiet =
-        elim (job_is_clean did.0 new tells tells' (job_to_run wanted.force_delete named) report did.2 quiet.1) [
-          | inl starved ↦ inl (starved_is report out_cut result (no_write_fault count_s tells_s held_s out out' (report_text named.pair report) out_cut still.0 printed) status starved)
-          | inr clean ↦ elim (answers named.pair report out_cut err_cut printed told status still.0 still.1 clean.synced (no_lines_or report.lines.items)) [
-            | inl three ↦ inl three
-            | inr answer ↦ inr (answer, (quiet.1.rows, quiet.1.ready.kept, clean))
-          ]
+    at (JobsEnded wanted jobs reports) did out_cut err_cut printed told status still quiet =
+        elim (jobs_are_clean places tells wanted.force_delete (did.0).between new jobs reports (did.0).ran quiet.1) [
+          | inl starved ↦ inl (status ∙ exits reports true (list_all is_clean reports) (is_write_fault out_cut) starved refl)
+          | inr clean ↦ inr (answers jobs reports out_cut err_cut printed told status still.0 still.1 clean.synced, clean.leave)
         ]
+    at (JobsStarved wanted jobs reports) did out_cut err_cut printed told status still quiet = inl status

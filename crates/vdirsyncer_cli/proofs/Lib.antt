@@ -5,5 +5,6 @@ pub mod JobLaws
 pub mod EndingLaws
 pub mod Endings
 pub mod ConfigLaws
+pub mod JobListLaws
 pub mod WordsLaws
 pub mod CleanLaws

@@ -1,5 +1,6 @@
--- What a run of the program promises of its job, and when it is undisturbed over a ready job, and what it then leaves (this project's own).
-use Rattle.std.specs.Prelude.{◌≡◌, ◌≢◌, ◌≤◌, ◌⊎◌, ℕ, List, [], length, Some, Ok}
+-- What a run of the program promises of its jobs, and when it is undisturbed over jobs that are ready, and what it then leaves (this project's own).
+use Rattle.std.specs.Prelude.{◌≡◌, ◌≢◌, ◌≤◌, ◌⊎◌, ℕ, Bool, List, [], ◌∷◌, length, Some, Ok}
+use Rattle.std.specs.List.{AllByRecursion}
 use Rattle.std.specs.FinMap as fin
 use Rattle.outside.specs.Causes.{Rose}
 use Rattle.outside.specs.Files.{Evolves}
@@ -19,8 +20,9 @@ use Rattle.vdirsyncer_cli.specs.declared.job.Job.{Job}
 use Rattle.vdirsyncer_cli.specs.ConfigRead.{config_limit}
 use Rattle.vdirsyncer_cli.specs.Jobs.{IsTold, IsQuietJob, span_in}
 use Rattle.vdirsyncer_cli.specs.Places.{Places, place_at}
-use Rattle.vdirsyncer_cli.specs.Runs.{Ended, Did, WordsRun, job_to_run, comes_to}
-use Rattle.vdirsyncer_cli.specs.Runs.Ended.{WrongWords, HelpAsked, WordsRefused, FileRefused, ConfigRefused, NothingChosen, OutOfMemory, JobEnded}
+use Rattle.vdirsyncer_cli.specs.JobLists.{job_to_run, JobsRun}
+use Rattle.vdirsyncer_cli.specs.Runs.{Ended, Did, WordsRun, comes_to}
+use Rattle.vdirsyncer_cli.specs.Runs.Ended.{WrongWords, HelpAsked, WordsRefused, FileRefused, ConfigRefused, OutOfMemory, JobsEnded, JobsStarved}
 use Rattle.vdirsyncer_cli.specs.SamePlace.{IsSamePlace}
 use Rattle.vdirsyncer_cli.specs.Files.{folder_of, name_of}
 
@@ -28,16 +30,23 @@ use Rattle.vdirsyncer_cli.specs.Files.{folder_of, name_of}
 abbrev pub KeepsPromise : Places → Places → (List ℕ → Type 0) → Job → Type 0
 KeepsPromise old new tells job = (IsSamePlace job.a job.b job.status → ⊥) → IsTold tells job → IsPromised (job.order).force_delete (job.order).rules (span_in old new job)
 
--- the job of the run keeps it
-abbrev pub IsKept : (old new : Places) (tells tells' : List ℕ → Type 0) (what : Asked) (ended : Ended) → Did old new tells tells' what ended → Type 0
-IsKept old new tells tells' what WrongWords did = Unit {0}
-IsKept old new tells tells' what HelpAsked did = Unit {0}
-IsKept old new tells tells' what (WordsRefused line) did = Unit {0}
-IsKept old new tells tells' what (FileRefused wanted e) did = Unit {0}
-IsKept old new tells tells' what (ConfigRefused wanted r) did = Unit {0}
-IsKept old new tells tells' what (NothingChosen wanted) did = Unit {0}
-IsKept old new tells tells' what OutOfMemory did = Unit {0}
-IsKept old new tells tells' what (JobEnded wanted job report) did = KeepsPromise did.0 new tells (job_to_run wanted.force_delete job)
+-- each of the jobs keeps it
+abbrev pub AllKept : {O : Type 0} (places : O → Places) (tells : O → List ℕ → Type 0) (force : Bool) (old new : O) (jobs : List SyncJob) (reports : List Report) → JobsRun places tells force old new jobs reports → Type 0
+AllKept places tells force old new jobs [] ran = Unit {0}
+AllKept places tells force old new [] (report ∷ reports) ran = Unit {0}
+AllKept places tells force old new (job ∷ jobs) (report ∷ reports) ran =
+    KeepsPromise (places old) (places ran.0) (tells old) (job_to_run force job) × AllKept places tells force ran.0 new jobs reports ran.2
+
+-- the jobs of the run keep it
+abbrev pub IsKept : {O : Type 0} (places : O → Places) (tells : O → List ℕ → Type 0) (old new : O) (what : Asked) (ended : Ended) → Did places tells old new what ended → Type 0
+IsKept places tells old new what WrongWords did = Unit {0}
+IsKept places tells old new what HelpAsked did = Unit {0}
+IsKept places tells old new what (WordsRefused line) did = Unit {0}
+IsKept places tells old new what (FileRefused wanted e) did = Unit {0}
+IsKept places tells old new what (ConfigRefused wanted r) did = Unit {0}
+IsKept places tells old new what OutOfMemory did = Unit {0}
+IsKept places tells old new what (JobsEnded wanted jobs reports) did = AllKept places tells wanted.force_delete (did.0).between new jobs reports (did.0).ran
+IsKept places tells old new what (JobsStarved wanted jobs reports) did = AllKept places tells wanted.force_delete did.between new jobs reports did.ran
 
 -- no edit from outside
 abbrev pub IsInside : FolderEvent → Type 0
@@ -47,7 +56,7 @@ IsInside (folder_event.Wrote name old new) = Unit {0}
 IsInside (folder_event.Read name bytes) = Unit {0}
 IsInside folder_event.Made = Unit {0}
 
--- the file of the configuration stands there and comes to a job, and nothing disturbs its reading, which ends at these places
+-- the file of the configuration stands there and comes to jobs, and nothing disturbs its reading, which ends at these places
 pub record IsQuietReading (old now : Places) (tells : List ℕ → Type 0) (wanted : Wanted) : Type 0 where
   pub told : tells (folder_of wanted.file)
   pub still : Rose (place_at old (folder_of wanted.file)).faults (place_at now (folder_of wanted.file)).faults → ⊥
@@ -55,8 +64,8 @@ pub record IsQuietReading (old now : Places) (tells : List ℕ → Type 0) (want
   pub bytes : List ℕ
   pub stands : fin.get ((place_at old (folder_of wanted.file)).state).files (name_of wanted.file) ≡ Some bytes
   pub fits : length bytes ≤ config_limit
-  pub job : SyncJob
-  pub comes : comes_to wanted bytes ≡ Ok (Some job)
+  pub jobs : List SyncJob
+  pub comes : comes_to wanted bytes ≡ Ok jobs
 
 -- a job over three places that differ is ready, its run is quiet, and the text of its rows is within the limit of a status
 pub record IsCleanJob (old new : Places) (tells : List ℕ → Type 0) (job : Job) (report : Report) : Type 0 where
@@ -67,38 +76,60 @@ pub record IsCleanJob (old new : Places) (tells : List ℕ → Type 0) (job : Jo
   pub quiet : IsQuietJob old new job
   pub rows_fit : report.end ≢ NotCommitted TooLong
 
--- valid words, a configuration that comes to a job, and that job ready, all of them undisturbed
-abbrev pub IsUndisturbed : (old new : Places) (tells tells' : List ℕ → Type 0) (what : Asked) (ended : Ended) → Did old new tells tells' what ended → Type 0
-IsUndisturbed old new tells tells' what WrongWords did = ⊥
-IsUndisturbed old new tells tells' what HelpAsked did = ⊥
-IsUndisturbed old new tells tells' what (WordsRefused line) did = ⊥
-IsUndisturbed old new tells tells' what (FileRefused wanted e) did = IsQuietReading old new tells wanted
-IsUndisturbed old new tells tells' what (ConfigRefused wanted r) did = IsQuietReading old new tells wanted
-IsUndisturbed old new tells tells' what (NothingChosen wanted) did = IsQuietReading old new tells wanted
-IsUndisturbed old new tells tells' what OutOfMemory did = Unit {0}
-IsUndisturbed old new tells tells' what (JobEnded wanted job report) did = IsQuietReading old did.0 tells wanted × IsCleanJob did.0 new tells (job_to_run wanted.force_delete job) report
+-- each of the jobs is so
+abbrev pub AreCleanJobs : {O : Type 0} (places : O → Places) (tells : O → List ℕ → Type 0) (force : Bool) (old new : O) (jobs : List SyncJob) (reports : List Report) → JobsRun places tells force old new jobs reports → Type 0
+AreCleanJobs places tells force old new jobs [] ran = Unit {0}
+AreCleanJobs places tells force old new [] (report ∷ reports) ran = Unit {0}
+AreCleanJobs places tells force old new (job ∷ jobs) (report ∷ reports) ran =
+    IsCleanJob (places old) (places ran.0) (tells old) (job_to_run force job) report × AreCleanJobs places tells force ran.0 new jobs reports ran.2
 
--- the status of a run is 0, and it prints nothing, where its job has no lines; else it is 1
-abbrev pub AnswersBy : Report → ℕ → Type 0 → Type 0
-AnswersBy report result AreSilent = ((report.lines.items ≡ []) × (result ≡ 0) × AreSilent) ⊎ ((report.lines.items ≢ []) × (result ≡ 1))
+-- valid words, a configuration that comes to jobs, and those ready, all of them undisturbed
+abbrev pub IsUndisturbed : {O : Type 0} (places : O → Places) (tells : O → List ℕ → Type 0) (old new : O) (what : Asked) (ended : Ended) → Did places tells old new what ended → Type 0
+IsUndisturbed places tells old new what WrongWords did = ⊥
+IsUndisturbed places tells old new what HelpAsked did = ⊥
+IsUndisturbed places tells old new what (WordsRefused line) did = ⊥
+IsUndisturbed places tells old new what (FileRefused wanted e) did = IsQuietReading (places old) (places new) (tells old) wanted
+IsUndisturbed places tells old new what (ConfigRefused wanted r) did = IsQuietReading (places old) (places new) (tells old) wanted
+IsUndisturbed places tells old new what OutOfMemory did = Unit {0}
+IsUndisturbed places tells old new what (JobsEnded wanted jobs reports) did =
+    IsQuietReading (places old) (places (did.0).between) (tells old) wanted × AreCleanJobs places tells wanted.force_delete (did.0).between new jobs reports (did.0).ran
+IsUndisturbed places tells old new what (JobsStarved wanted jobs reports) did = Unit {0}
 
--- the job of the run is clean: in sync, its lines exactly the conflicts that no rule settles, both sides and the rows at what each other ident is due
-abbrev pub LeavesClean : (old new : Places) (tells tells' : List ℕ → Type 0) (what : Asked) (ended : Ended) → Did old new tells tells' what ended → ℕ → Type 0 → Type 0
-LeavesClean old new tells tells' what WrongWords did result AreSilent = ⊥
-LeavesClean old new tells tells' what HelpAsked did result AreSilent = ⊥
-LeavesClean old new tells tells' what (WordsRefused line) did result AreSilent = ⊥
-LeavesClean old new tells tells' what (FileRefused wanted e) did result AreSilent = ⊥
-LeavesClean old new tells tells' what (ConfigRefused wanted r) did result AreSilent = ⊥
-LeavesClean old new tells tells' what (NothingChosen wanted) did result AreSilent = ⊥
-LeavesClean old new tells tells' what OutOfMemory did result AreSilent = ⊥
-LeavesClean old new tells tells' what (JobEnded wanted job report) did result AreSilent =
-    AnswersBy report result AreSilent × ((rows : List Row) × (((span_in did.0 new (job_to_run wanted.force_delete job)).k).kept ≡ Ok rows) × EndsClean job.rules (span_in did.0 new (job_to_run wanted.force_delete job)) rows report)
+-- no report has a line
+abbrev pub AreLineless : List Report → Type 0
+AreLineless reports = AllByRecursion (λ report. report.lines.items ≡ []) reports
 
--- one run of the program: its job keeps the promise; and where the run is undisturbed and the sinks are still, it leaves its job clean, or it answers 3
-pub record PromisedRun (old new : Places) (tells tells' : List ℕ → Type 0) (what : Asked) (PrintsOut PrintsErr : List ℕ → Cut → Type 0) (AreStill AreSilent : Type 0) (result : ℕ) : Type 0 where
-  pub run : WordsRun old new tells tells' what PrintsOut PrintsErr result
-  pub kept : IsKept old new tells tells' what run.ended run.did
-  pub complete : AreStill → IsUndisturbed old new tells tells' what run.ended run.did → (result ≡ 3) ⊎ LeavesClean old new tells tells' what run.ended run.did result AreSilent
+-- the status of a run is 0, and it prints nothing, where its jobs have no lines; else it is 1
+abbrev pub AnswersBy : List Report → ℕ → Type 0 → Type 0
+AnswersBy reports result AreSilent = (AreLineless reports × (result ≡ 0) × AreSilent) ⊎ ((AreLineless reports → ⊥) × (result ≡ 1))
+
+-- a job is clean: in sync, its lines exactly the conflicts that no rule settles, both sides and the rows at what each other ident is due
+abbrev pub LeavesJob : Places → Places → Job → Report → Type 0
+LeavesJob old new job report = (rows : List Row) × (((span_in old new job).k).kept ≡ Ok rows) × EndsClean (job.order).rules (span_in old new job) rows report
+
+abbrev pub LeaveJobs : {O : Type 0} (places : O → Places) (tells : O → List ℕ → Type 0) (force : Bool) (old new : O) (jobs : List SyncJob) (reports : List Report) → JobsRun places tells force old new jobs reports → Type 0
+LeaveJobs places tells force old new jobs [] ran = Unit {0}
+LeaveJobs places tells force old new [] (report ∷ reports) ran = Unit {0}
+LeaveJobs places tells force old new (job ∷ jobs) (report ∷ reports) ran =
+    LeavesJob (places old) (places ran.0) (job_to_run force job) report × LeaveJobs places tells force ran.0 new jobs reports ran.2
+
+-- the jobs that the configuration comes to ran, each once, and each is clean
+abbrev pub LeavesClean : {O : Type 0} (places : O → Places) (tells : O → List ℕ → Type 0) (old new : O) (what : Asked) (ended : Ended) → Did places tells old new what ended → ℕ → Type 0 → Type 0
+LeavesClean places tells old new what WrongWords did result AreSilent = ⊥
+LeavesClean places tells old new what HelpAsked did result AreSilent = ⊥
+LeavesClean places tells old new what (WordsRefused line) did result AreSilent = ⊥
+LeavesClean places tells old new what (FileRefused wanted e) did result AreSilent = ⊥
+LeavesClean places tells old new what (ConfigRefused wanted r) did result AreSilent = ⊥
+LeavesClean places tells old new what OutOfMemory did result AreSilent = ⊥
+LeavesClean places tells old new what (JobsEnded wanted jobs reports) did result AreSilent =
+    AnswersBy reports result AreSilent × LeaveJobs places tells wanted.force_delete (did.0).between new jobs reports (did.0).ran
+LeavesClean places tells old new what (JobsStarved wanted jobs reports) did result AreSilent = ⊥
+
+-- one run of the program: each job keeps the promise; and where the run is undisturbed and the sinks are still, it leaves each job clean, or it answers 3
+pub record PromisedRun {O : Type 0} (places : O → Places) (tells : O → List ℕ → Type 0) (old new : O) (what : Asked) (PrintsOut PrintsErr : List ℕ → Cut → Type 0) (AreStill AreSilent : Type 0) (result : ℕ) : Type 0 where
+  pub run : WordsRun places tells old new what PrintsOut PrintsErr result
+  pub kept : IsKept places tells old new what run.ended run.did
+  pub complete : AreStill → IsUndisturbed places tells old new what run.ended run.did → (result ≡ 3) ⊎ LeavesClean places tells old new what run.ended run.did result AreSilent
 
 -- no count of the sinks rose
 abbrev pub SinkIsStill : {S : Type 0} → (S → ℕ) → S → S → Type 0

@@ -6,6 +6,7 @@ pub mod SamePlace
 pub mod Files
 pub mod Asked
 pub mod Jobs
+pub mod JobLists
 pub mod ConfigRead
 pub mod Runs
 pub mod CleanRuns

@@ -1,4 +1,4 @@
-//! The top call: the words, the configuration, one job, and what is printed.
+//! The top call: the words, the configuration, the jobs, and what is printed.
 #![tactic(auto)]
 
 mod asked;
@@ -8,6 +8,7 @@ mod env;
 mod file_error;
 mod files;
 mod job;
+mod jobs;
 mod naming;
 mod one_job;
 mod opened;

@@ -11,7 +11,7 @@ pub enum Cut {
     Whole,
     /// The sink failed: a front of the text was written, and nothing more is.
     WriteFault,
-    /// Memory ran out before the text was made.
+    /// Memory ran out before all of the text was made.
     Starved,
 }
 

@@ -11,23 +11,20 @@ ghost use Rattle.vdirsyncer_cli.specs.Asked.{asked_of};
 ghost use Rattle.vdirsyncer_cli.specs.CleanRuns.{PromisedRun, SinkIsStill, SinkIsSilent};
 ghost use Rattle.vdirsyncer_cli.specs.Files.{file_text};
 ghost use Rattle.vdirsyncer_cli.specs.Printing.{Prints};
-ghost use Rattle.vdirsyncer_cli.specs.Runs.{WordsRun, Refuses, Finishes, TellsStarved, cut_status, job_status, comes_to};
+ghost use Rattle.vdirsyncer_cli.specs.Runs.{WordsRun, Refuses, FinishesBy, TellsStarved, cut_status, comes_to};
 
 use crate::asked::{Asked, Wanted, asked_of};
 use crate::config_read::read_through;
 use crate::env::Env;
 use crate::file_error::{FileError, file_text};
-use crate::naming::job_to_run;
-use crate::one_job::run_job;
+use crate::jobs::{Progress, run_jobs};
 use crate::printing::{Cut, print};
-use cli_jobs::{Refusal, SyncJob, job_of, refusal_text};
-use cli_text::{exit_status, report_text};
+use cli_jobs::{Refusal, SyncJob, jobs_of, refusal_text};
+use cli_text::exit_status;
 use cli_words::usage;
 use outside::{NoMemory, Outfit, Sink, Source};
 use std::alloc::Global;
-use std::slice::from_ref;
-use sync_plan::Report;
-use values::{Bytes, Text};
+use values::{Bytes, Sequence, Text};
 
 /// Tells a want of memory outside a job.
 fn tell_starved<E: Sink>(err: &mut E) -> u8
@@ -48,17 +45,6 @@ fn status_of_cut(cut: Cut) -> u8
     }
 }
 
-/// The exit status of a job by what became of its report's text.
-fn status_of_job(report: &Report, cut: Cut) -> u8
-    ensures { result ≡ job_status report.now cut }
-{
-    match cut {
-        Cut::Whole => exit_status(from_ref(report), false),
-        Cut::WriteFault => exit_status(from_ref(report), true),
-        Cut::Starved => 3,
-    }
-}
-
 /// Tells why the file of the configuration can't be read.
 fn refuse_file<E: Sink>(alloc: Global, file: &str, error: FileError, err: &mut E) -> u8
     ensures { Refuses (error ≡ FileError.NoMemory) (file_text file.now error) (Prints E.count E.tells E.held err.old err.new) result }
@@ -75,7 +61,7 @@ fn refuse_file<E: Sink>(alloc: Global, file: &str, error: FileError, err: &mut E
     }
 }
 
-/// Tells why there is no job.
+/// Tells why there are no jobs.
 fn refuse<E: Sink>(alloc: Global, reason: Refusal, err: &mut E) -> u8
     ensures { Refuses (reason ≡ refusal.NoMemory) (refusal_text reason) (Prints E.count E.tells E.held err.old err.new) result }
 {
@@ -91,23 +77,15 @@ fn refuse<E: Sink>(alloc: Global, reason: Refusal, err: &mut E) -> u8
     }
 }
 
-/// Prints a job's report. A want of memory before its text is made is told.
-fn finish<S: Sink, E: Sink>(
-    alloc: Global,
-    name: &str,
-    report: &Report,
-    out: &mut S,
-    err: &mut E,
-) -> u8
-    ensures { Finishes name.now report.now (Prints S.count S.tells S.held out.old out.new) (Prints E.count E.tells E.held err.old err.new) result }
+/// The exit status behind the jobs. A want of memory outside a job is told.
+fn finish<E: Sink>(progress: &Progress, err: &mut E) -> u8
+    ensures { FinishesBy progress.now.is_starved progress.now (Prints E.count E.tells E.held err.old err.new) result }
 {
-    match report_text(alloc, name, report) {
-        Ok(text) => {
-            let cut = print(out, text.as_str());
-            status_of_job(report, cut)
-        }
-        Err(NoMemory) => tell_starved(err),
+    if progress.is_starved {
+        return tell_starved(err);
     }
+    let write_fault = matches!(progress.cut, Cut::WriteFault);
+    exit_status(progress.reports.as_slice(), write_fault)
 }
 
 fn home_of(wanted: &Wanted) -> Option<&str>
@@ -119,11 +97,11 @@ fn home_of(wanted: &Wanted) -> Option<&str>
     }
 }
 
-/// The job that is wanted of a configuration.
-fn chosen(alloc: Global, wanted: &Wanted, bytes: &Bytes) -> Result<Option<SyncJob>, Refusal>
+/// The jobs that are wanted of a configuration.
+fn chosen(alloc: Global, wanted: &Wanted, bytes: &Bytes) -> Result<Sequence<SyncJob>, Refusal>
     ensures { Comes (comes_to wanted.now bytes.now) result }
 {
-    job_of(
+    jobs_of(
         alloc,
         wanted.names.as_slice(),
         home_of(wanted),
@@ -131,7 +109,7 @@ fn chosen(alloc: Global, wanted: &Wanted, bytes: &Bytes) -> Result<Option<SyncJo
     )
 }
 
-/// Reads the configuration and runs its job.
+/// Reads the configuration and runs its jobs.
 fn sync<O: Outfit, S: Sink, E: Sink>(
     alloc: Global,
     wanted: &Wanted,
@@ -141,7 +119,7 @@ fn sync<O: Outfit, S: Sink, E: Sink>(
 ) -> u8
     requires { IsWhole (O.places outfit.old) }
     ensures whole { IsWhole (O.places outfit.new) }
-    ensures run { WordsRun (O.places outfit.old) (O.places outfit.new) (O.tells outfit.old) (O.tells outfit.new) (Asked.Run wanted.now)
+    ensures run { WordsRun O.places O.tells outfit.old outfit.new (Asked.Run wanted.now)
         (Prints S.count S.tells S.held out.old out.new) (Prints E.count E.tells E.held err.old err.new) result }
 {
     let file = wanted.file.as_str();
@@ -149,19 +127,13 @@ fn sync<O: Outfit, S: Sink, E: Sink>(
         Ok(bytes) => bytes,
         Err(error) => return refuse_file(alloc, file, error, err),
     };
-    let found = match chosen(alloc, wanted, &bytes) {
-        Ok(found) => found,
+    let jobs = match chosen(alloc, wanted, &bytes) {
+        Ok(jobs) => jobs,
         Err(reason) => return refuse(alloc, reason, err),
     };
-    let job = match found {
-        Some(job) => job,
-        None => return 0,
-    };
-    let (pair, job) = job_to_run(job, wanted.force_delete);
-    match run_job(alloc, job, outfit) {
-        Ok(report) => finish(alloc, pair.as_str(), &report, out, err),
-        Err(NoMemory) => tell_starved(err),
-    }
+    let force_delete = wanted.force_delete;
+    let progress = run_jobs(alloc, jobs.as_slice(), force_delete, outfit, out);
+    finish(&progress, err)
 }
 
 /// Does what is asked.
@@ -174,7 +146,7 @@ fn obey<O: Outfit, S: Sink, E: Sink>(
 ) -> u8
     requires { IsWhole (O.places outfit.old) }
     ensures whole { IsWhole (O.places outfit.new) }
-    ensures run { WordsRun (O.places outfit.old) (O.places outfit.new) (O.tells outfit.old) (O.tells outfit.new) what.now
+    ensures run { WordsRun O.places O.tells outfit.old outfit.new what.now
         (Prints S.count S.tells S.held out.old out.new) (Prints E.count E.tells E.held err.old err.new) result }
 {
     match what {
@@ -191,7 +163,7 @@ fn obey<O: Outfit, S: Sink, E: Sink>(
     }
 }
 
-/// What `run_words` does: the words and the configuration are read, the job is run, and its report is printed.
+/// What `run_words` does: the words and the configuration are read, the jobs are run, and their reports are printed.
 fn do_words<O: Outfit, S: Sink, E: Sink>(
     alloc: Global,
     words: &[Text],
@@ -202,7 +174,7 @@ fn do_words<O: Outfit, S: Sink, E: Sink>(
 ) -> u8
     requires { IsWhole (O.places outfit.old) }
     ensures whole { IsWhole (O.places outfit.new) }
-    ensures run { WordsRun (O.places outfit.old) (O.places outfit.new) (O.tells outfit.old) (O.tells outfit.new) (asked_of env.now (meaning_of words.now))
+    ensures run { WordsRun O.places O.tells outfit.old outfit.new (asked_of env.now (meaning_of words.now))
         (Prints S.count S.tells S.held out.old out.new) (Prints E.count E.tells E.held err.old err.new) result }
 {
     match asked_of(alloc, words, env) {
@@ -211,10 +183,11 @@ fn do_words<O: Outfit, S: Sink, E: Sink>(
     }
 }
 
-/// Runs the program: reads the words and the configuration, runs the job, prints its report, and answers the exit
-/// status: 0 where the job is in sync without lines or no pair is chosen, 1 where not, where something was refused, or
-/// where a write to `out` failed, 2 for wrong words, 3 for want of memory. The input serves words that are not built
-/// yet.
+/// Runs the program: reads the words and the configuration, runs the jobs of the chosen pairs in the order of the
+/// configuration, prints the report of each behind it, and answers the exit status: 0 where each job is in sync without
+/// lines, 1 where not, where something was refused, or where a write to `out` failed, 2 for wrong words, 3 for want of
+/// memory. A job that is refused or ends by want of memory doesn't stop the others; a want of memory outside a job ends
+/// the command. The input serves words that are not built yet.
 pub fn run_words<O: Outfit, I: Source, S: Sink, E: Sink>(
     alloc: Global,
     words: &[Text],
@@ -226,7 +199,7 @@ pub fn run_words<O: Outfit, I: Source, S: Sink, E: Sink>(
 ) -> u8
     requires { IsWhole (O.places outfit.old) }
     ensures whole { IsWhole (O.places outfit.new) }
-    ensures promised { PromisedRun (O.places outfit.old) (O.places outfit.new) (O.tells outfit.old) (O.tells outfit.new) (asked_of env.now (meaning_of words.now))
+    ensures promised { PromisedRun O.places O.tells outfit.old outfit.new (asked_of env.now (meaning_of words.now))
         (Prints S.count S.tells S.held out.old out.new) (Prints E.count E.tells E.held err.old err.new)
         (SinkIsStill S.count out.old out.new × SinkIsStill E.count err.old err.new)
         (SinkIsSilent S.tells S.held out.old out.new × SinkIsSilent E.tells E.held err.old err.new) result }
