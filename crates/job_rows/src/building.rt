@@ -1,6 +1,6 @@
 //! The rows that a run comes to.
 
-ghost use Rattle.std.specs.Prelude.{◌||◌, ◌≡◌, ◌≢◌, ◌↔◌, ◌++◌, Some, None, true, false, IfOk, OnOk, IsTrue, option_to_list};
+ghost use Rattle.std.specs.Prelude.{◌||◌, ◌≡◌, ◌≢◌, ◌↔◌, ◌++◌, [], Some, None, true, false, IfOk, OnOk, IsTrue, option_to_list};
 ghost use Rattle.status_keeper.specs.Idents.{IsRising};
 ghost use Rattle.status_keeper.specs.Rows.{row_of, row_idents};
 ghost use Rattle.side_reads.specs.Places.{lent_row};
@@ -15,18 +15,11 @@ use std::alloc::{AllocError, Global};
 use sync_plan::{Planned, Seen, Step};
 use values::Text;
 
-/// The rows that a run comes to, and whether they differ from those that it loaded.
+/// Whether the rows that a run comes to differ from those that it loaded; only then they stand here.
 #[derive(Debug, Drop)]
 pub struct RowsAfter {
     pub rows: Vec<Row>,
     pub changed: bool,
-}
-
-/// The row of one ident at the end, and whether it differs from the one before.
-#[derive(Debug, Drop)]
-struct Next {
-    row: Option<Row>,
-    changed: bool,
 }
 
 fn copy_text(alloc: Global, text: &Option<Text>) -> Result<Option<Text>, AllocError>
@@ -85,66 +78,23 @@ fn is_same_row(x: &Row, y: &Row) -> bool
         && is_same_text(&x.etag_b, &y.etag_b)
 }
 
-/// This row in place of the old one.
-fn with_row(row: Row, old: Option<&Row>) -> Next
-    ensures row { result.row ≡ Some row }
-    ensures same { result.changed ≡ false → result.row ≡ lent_row old.entry }
-    ensures differs { result.changed ≡ true → result.row ≢ lent_row old.entry }
-{
-    let changed = match old {
-        Some(old) => !is_same_row(old, &row),
-        None => true,
-    };
-    Next {
-        row: Some(row),
-        changed,
-    }
-}
-
-/// No row in place of the old one.
-fn without_row(old: Option<&Row>) -> Next
-    ensures row { result.row ≡ None }
-    ensures same { result.changed ≡ false → result.row ≡ lent_row old.entry }
-    ensures differs { result.changed ≡ true → result.row ≢ lent_row old.entry }
-{
-    Next {
-        row: None,
-        changed: old.is_some(),
-    }
-}
-
 /// The old row.
-fn old_row(alloc: Global, old: Option<&Row>) -> Result<Next, AllocError>
-    ensures row { IfOk result (λ n. n.row ≡ lent_row old.entry) }
-    ensures changed { IfOk result (λ n. n.changed ≡ false) }
+fn old_row(alloc: Global, old: Option<&Row>) -> Result<Option<Row>, AllocError>
+    ensures { IfOk result (λ row. row ≡ lent_row old.entry) }
 {
-    let row = match old {
-        Some(old) => Some(copy_row(alloc, old)?),
-        None => None,
-    };
-    Ok(Next {
-        row,
-        changed: false,
-    })
+    match old {
+        Some(old) => Ok(Some(copy_row(alloc, old)?)),
+        None => Ok(None),
+    }
 }
 
 /// The row of an item that both sides have.
-fn kept_row(
-    alloc: Global,
-    a: Option<&Seen>,
-    b: Option<&Seen>,
-    old: Option<&Row>,
-) -> Result<Next, AllocError>
-    ensures row { IfOk result (λ n. n.row ≡ row_kept (lent_seen a.entry) (lent_seen b.entry)) }
-    ensures same { IfOk result (λ n. n.changed ≡ false → n.row ≡ lent_row old.entry) }
-    ensures differs { IfOk result (λ n. n.changed ≡ true → n.row ≢ lent_row old.entry) }
+fn kept_row(alloc: Global, a: Option<&Seen>, b: Option<&Seen>) -> Result<Option<Row>, AllocError>
+    ensures { IfOk result (λ row. row ≡ row_kept (lent_seen a.entry) (lent_seen b.entry)) }
 {
     match (a, b) {
-        (Some(a), Some(b)) => match row_of_both(alloc, a, b) {
-            Ok(row) => Ok(with_row(row, old)),
-            Err(error) => Err(error),
-        },
-        _ => Ok(without_row(old)),
+        (Some(a), Some(b)) => Ok(Some(row_of_both(alloc, a, b)?)),
+        _ => Ok(None),
     }
 }
 
@@ -156,25 +106,106 @@ fn next_row(
     b: &Holding,
     planned: &Planned,
     outcome: &Outcome,
-) -> Result<Next, AllocError>
+) -> Result<Option<Row>, AllocError>
     requires { IsRising (row_idents rows.now) }
-    ensures row { IfOk result (λ n. n.row ≡ row_after (sources a.now b.now) rows.now planned.now outcome.now) }
-    ensures same { IfOk result (λ n. n.changed ≡ false → n.row ≡ row_of planned.now.ident.now rows.now) }
-    ensures differs { IfOk result (λ n. n.changed ≡ true → n.row ≢ row_of planned.now.ident.now rows.now) }
+    ensures { IfOk result (λ row. row ≡ row_after (sources a.now b.now) rows.now planned.now outcome.now) }
 {
-    let old = row_of(rows, planned.ident);
     match outcome {
-        Outcome::Kept => kept_row(alloc, seen_at(a, planned.a), seen_at(b, planned.b), old),
-        Outcome::Gone => Ok(without_row(old)),
+        Outcome::Kept => kept_row(alloc, seen_at(a, planned.a), seen_at(b, planned.b)),
+        Outcome::Gone => Ok(None),
         Outcome::Written(row) => match copy_row(alloc, row) {
-            Ok(row) => Ok(with_row(row, old)),
+            Ok(row) => Ok(Some(row)),
             Err(error) => Err(error),
         },
-        Outcome::Left => old_row(alloc, old),
-        Outcome::Conflict => old_row(alloc, old),
-        Outcome::NotWritten { side: _, error: _ } => old_row(alloc, old),
-        Outcome::NotRemoved { side: _, error: _ } => old_row(alloc, old),
-        Outcome::Skipped => old_row(alloc, old),
+        Outcome::Left => old_row(alloc, row_of(rows, planned.ident)),
+        Outcome::Conflict => old_row(alloc, row_of(rows, planned.ident)),
+        Outcome::NotWritten { side: _, error: _ } => old_row(alloc, row_of(rows, planned.ident)),
+        Outcome::NotRemoved { side: _, error: _ } => old_row(alloc, row_of(rows, planned.ident)),
+        Outcome::Skipped => old_row(alloc, row_of(rows, planned.ident)),
+    }
+}
+
+/// Whether a row differs from the old one.
+fn differs_from(row: &Row, old: Option<&Row>) -> bool
+    ensures same { result ≡ false → Some row.now ≡ lent_row old.entry }
+    ensures differs { result ≡ true → Some row.now ≢ lent_row old.entry }
+{
+    match old {
+        Some(old) => !is_same_row(old, row),
+        None => true,
+    }
+}
+
+fn is_text(x: &Option<Text>, y: &Text) -> bool
+    ensures { IsTrue result ↔ (x.now ≡ Some y.now) }
+{
+    match x {
+        Some(x) => x.as_str() == y.as_str(),
+        None => false,
+    }
+}
+
+fn is_row_of_both(row: &Row, a: &Seen, b: &Seen) -> bool
+    ensures { IsTrue result ↔ (row.now ≡ row_of_both a.now b.now) }
+{
+    row.ident.as_str() == a.ident.as_str()
+        && row.fp == a.fp
+        && is_text(&row.href_a, &a.href)
+        && is_text(&row.etag_a, &a.etag)
+        && is_text(&row.href_b, &b.href)
+        && is_text(&row.etag_b, &b.etag)
+}
+
+/// Whether the row of an item that both sides have differs from the old one.
+fn both_differ(a: &Seen, b: &Seen, old: Option<&Row>) -> bool
+    ensures same { result ≡ false → Some (row_of_both a.now b.now) ≡ lent_row old.entry }
+    ensures differs { result ≡ true → Some (row_of_both a.now b.now) ≢ lent_row old.entry }
+{
+    match old {
+        Some(old) => !is_row_of_both(old, a, b),
+        None => true,
+    }
+}
+
+/// Whether there was a row.
+fn had_row(old: Option<&Row>) -> bool
+    ensures same { result ≡ false → None ≡ lent_row old.entry }
+    ensures differs { result ≡ true → None ≢ lent_row old.entry }
+{
+    match old {
+        Some(_) => true,
+        None => false,
+    }
+}
+
+fn kept_differs(a: Option<&Seen>, b: Option<&Seen>, old: Option<&Row>) -> bool
+    ensures same { result ≡ false → row_kept (lent_seen a.entry) (lent_seen b.entry) ≡ lent_row old.entry }
+    ensures differs { result ≡ true → row_kept (lent_seen a.entry) (lent_seen b.entry) ≢ lent_row old.entry }
+{
+    match (a, b) {
+        (Some(a), Some(b)) => both_differ(a, b, old),
+        _ => had_row(old),
+    }
+}
+
+/// Whether the row of an ident at the end differs from the one before.
+fn differs_at(rows: &[Row], a: &Holding, b: &Holding, planned: &Planned, outcome: &Outcome) -> bool
+    requires { IsRising (row_idents rows.now) }
+    ensures same { result ≡ false → row_after (sources a.now b.now) rows.now planned.now outcome.now ≡ row_of planned.now.ident.now rows.now }
+    ensures differs { result ≡ true → row_after (sources a.now b.now) rows.now planned.now outcome.now ≢ row_of planned.now.ident.now rows.now }
+{
+    match outcome {
+        Outcome::Kept => {
+            let old = row_of(rows, planned.ident);
+            kept_differs(seen_at(a, planned.a), seen_at(b, planned.b), old)
+        }
+        Outcome::Gone => had_row(row_of(rows, planned.ident)),
+        Outcome::Written(row) => differs_from(row, row_of(rows, planned.ident)),
+        Outcome::Left => false,
+        Outcome::Conflict => false,
+        Outcome::NotWritten { side: _, error: _ } => false,
+        Outcome::NotRemoved { side: _, error: _ } => false,
+        Outcome::Skipped => false,
     }
 }
 
@@ -188,22 +219,74 @@ fn outcome_of<'o>(step: Step, first: &'o Outcome, second: &'o Outcome) -> &'o Ou
     }
 }
 
-impl RowsAfter {
-    /// Adds the row of one ident.
-    fn add(&mut self, next: Next) -> Result<(), AllocError>
-        ensures rows { OnOk result (self.new.rows.items ≡ self.old.rows.items ++ option_to_list next.row) }
-        ensures changed { OnOk result (self.new.changed ≡ (self.old.changed || next.changed)) }
-    {
-        let Next { row, changed } = next;
-        if let Some(row) = row {
-            self.rows.push(row)?;
-        }
-        self.changed = self.changed || changed;
-        Ok(())
-    }
+fn either(before: bool, one: bool) -> bool
+    ensures { result ≡ (before || one) }
+{
+    before || one
 }
 
-/// The rows that a run comes to, ident by ident in the order of its plan.
+/// Whether the row of any ident differs from the one before.
+fn any_differs(
+    rows: &[Row],
+    a: &Holding,
+    b: &Holding,
+    plan: &[Planned],
+    outcomes: &Outcomes,
+) -> bool
+    requires rising { IsRising (row_idents rows.now) }
+    requires whole { IsWhole (sources a.now b.now) plan.now outcomes.now }
+    ensures same { result ≡ false → IsUnchanged (sources a.now b.now) rows.now plan.now outcomes.now.put.items outcomes.now.removed.items }
+    ensures differs { result ≡ true → IsUnchanged (sources a.now b.now) rows.now plan.now outcomes.now.put.items outcomes.now.removed.items → ⊥ }
+{
+    let mut differs = false;
+    for i in 0..plan.len() {
+        let outcome = outcome_of(plan[i].step, &outcomes.put[i], &outcomes.removed[i]);
+        let one = differs_at(rows, a, b, &plan[i], outcome);
+        differs = either(differs, one);
+    }
+    differs
+}
+
+/// Adds the row of one ident.
+fn add(rows: &mut Vec<Row>, row: Option<Row>) -> Result<(), AllocError>
+    ensures { OnOk result (rows.new.items ≡ rows.old.items ++ option_to_list row) }
+{
+    if let Some(row) = row {
+        rows.push(row)?;
+    }
+    Ok(())
+}
+
+/// The rows of all idents.
+fn all_rows(
+    alloc: Global,
+    rows: &[Row],
+    a: &Holding,
+    b: &Holding,
+    plan: &[Planned],
+    outcomes: &Outcomes,
+) -> Result<Vec<Row>, AllocError>
+    requires rising { IsRising (row_idents rows.now) }
+    requires whole { IsWhole (sources a.now b.now) plan.now outcomes.now }
+    ensures { IfOk result (λ after. after.items ≡ rows_after (sources a.now b.now) rows.now plan.now outcomes.now.put.items outcomes.now.removed.items) }
+{
+    let mut after = Vec::new(alloc);
+    for i in 0..plan.len() {
+        let outcome = outcome_of(plan[i].step, &outcomes.put[i], &outcomes.removed[i]);
+        match next_row(alloc, rows, a, b, &plan[i], outcome) {
+            Ok(row) => {
+                let Ok(()) = add(&mut after, row) else {
+                    return Err(AllocError);
+                };
+            }
+            Err(error) => return Err(error),
+        }
+    }
+    Ok(after)
+}
+
+/// Whether the rows that a run comes to differ from those that it loaded, and where they do the rows, ident by ident in the
+/// order of its plan. Where none differs no row is copied.
 pub fn rows_after(
     alloc: Global,
     rows: &[Row],
@@ -214,24 +297,22 @@ pub fn rows_after(
 ) -> Result<RowsAfter, AllocError>
     requires rising { IsRising (row_idents rows.now) }
     requires whole { IsWhole (sources a.now b.now) plan.now outcomes.now }
-    ensures rows { IfOk result (λ r. r.rows.items ≡ rows_after (sources a.now b.now) rows.now plan.now outcomes.now.put.items outcomes.now.removed.items) }
+    ensures rows { IfOk result (λ r. r.changed ≡ true → r.rows.items ≡ rows_after (sources a.now b.now) rows.now plan.now outcomes.now.put.items outcomes.now.removed.items) }
+    ensures none { IfOk result (λ r. r.changed ≡ false → r.rows.items ≡ []) }
     ensures same { IfOk result (λ r. r.changed ≡ false → IsUnchanged (sources a.now b.now) rows.now plan.now outcomes.now.put.items outcomes.now.removed.items) }
     ensures differs { IfOk result (λ r. r.changed ≡ true → IsUnchanged (sources a.now b.now) rows.now plan.now outcomes.now.put.items outcomes.now.removed.items → ⊥) }
 {
-    let mut after = RowsAfter {
-        rows: Vec::new(alloc),
-        changed: false,
-    };
-    for i in 0..plan.len() {
-        let outcome = outcome_of(plan[i].step, &outcomes.put[i], &outcomes.removed[i]);
-        match next_row(alloc, rows, a, b, &plan[i], outcome) {
-            Ok(next) => {
-                let Ok(()) = after.add(next) else {
-                    return Err(AllocError);
-                };
-            }
-            Err(error) => return Err(error),
-        }
+    if !any_differs(rows, a, b, plan, outcomes) {
+        return Ok(RowsAfter {
+            rows: Vec::new(alloc),
+            changed: false,
+        });
     }
-    Ok(after)
+    match all_rows(alloc, rows, a, b, plan, outcomes) {
+        Ok(rows) => Ok(RowsAfter {
+            rows,
+            changed: true,
+        }),
+        Err(error) => Err(error),
+    }
 }

@@ -133,12 +133,28 @@ lines_begin a0 a1 a2 b0 b1 b2 la lb (line ∷ lines) all = (one line.what all.0,
 
 -- ---- ends
 
-pub closes_as : (x : Sources) (rows : List Row) (plan : List Planned) (os : Outcomes) (found : Option (List ℕ)) (y : Closing) (report : Report) (changed : Bool) (made : List Row) (lines : List Line) (end : JobEnd) → made ≡ rows_after x rows plan os.put.items os.removed.items → (changed ≡ false → IsUnchanged x rows plan os.put.items os.removed.items) → (changed ≡ true → IsUnchanged x rows plan os.put.items os.removed.items → ⊥) → lines ≡ lines_of plan os.put.items os.removed.items → LinesAt end report.lines.items lines → EndsBy changed found y made end → ClosesAs x rows plan os found y report end
-closes_as x rows plan os found y report changed made lines Synced is same differs all at ends = record { changed = changed; same = same; differs = differs; lines = at ∙ all; ends = subst (λ (l : List Row). EndsBy changed found y l Synced) is ends }
-closes_as x rows plan os found y report changed made lines (NotFlushed side error) is same differs all at ends = record { changed = changed; same = same; differs = differs; lines = at ∙ all; ends = ends }
-closes_as x rows plan os found y report changed made lines (NotCommitted error) is same differs all at ends = record { changed = changed; same = same; differs = differs; lines = at ∙ all; ends = subst (λ (l : List Row). EndsBy changed found y l (NotCommitted error)) is ends }
-closes_as x rows plan os found y report changed made lines NoMemory is same differs all at ends = (ends, at)
-closes_as x rows plan os found y report changed made lines (Refused refusal) is same differs all at ends = ends
+-- where no row differs none is read
+unread : (found : Option (List ℕ)) (y : Closing) (some other : List Row) (end : JobEnd) → EndsBy false found y some end → EndsBy false found y other end
+unread found y some other Synced ends = ends
+unread found y some other (NotFlushed side error) ends = ends
+unread found y some other (NotCommitted error) ends = absurd (false≢true ((ends.2).0))
+unread found y some other NoMemory ends = ends
+unread found y some other (Refused refusal) ends = ends
+
+-- the ends are of the rows that the run comes to
+ends_of_rows : (found : Option (List ℕ)) (y : Closing) (changed : Bool) (made rows : List Row) (end : JobEnd) → (changed ≡ true → made ≡ rows) → EndsBy changed found y made end → EndsBy changed found y rows end
+ends_of_rows found y true made rows end is ends = subst (λ (l : List Row). EndsBy true found y l end) (is refl) ends
+ends_of_rows found y false made rows end is ends = unread found y made rows end ends
+
+pub closes_as : (x : Sources) (rows : List Row) (plan : List Planned) (os : Outcomes) (found : Option (List ℕ)) (y : Closing) (report : Report) (changed : Bool) (made : List Row) (lines : List Line) (end : JobEnd) → (changed ≡ true → made ≡ rows_after x rows plan os.put.items os.removed.items) → (changed ≡ false → IsUnchanged x rows plan os.put.items os.removed.items) → (changed ≡ true → IsUnchanged x rows plan os.put.items os.removed.items → ⊥) → lines ≡ lines_of plan os.put.items os.removed.items → LinesAt end report.lines.items lines → EndsBy changed found y made end → ClosesAs x rows plan os found y report end
+closes_as x rows plan os found y report changed made lines end is same differs all at ends = by end at (ends_of_rows found y changed made (rows_after x rows plan os.put.items os.removed.items) end is ends)
+  where
+    by : (end : JobEnd) → LinesAt end report.lines.items lines → EndsBy changed found y (rows_after x rows plan os.put.items os.removed.items) end → ClosesAs x rows plan os found y report end
+    by Synced at ends = record { changed = changed; same = same; differs = differs; lines = at ∙ all; ends = ends }
+    by (NotFlushed side error) at ends = record { changed = changed; same = same; differs = differs; lines = at ∙ all; ends = ends }
+    by (NotCommitted error) at ends = record { changed = changed; same = same; differs = differs; lines = at ∙ all; ends = ends }
+    by NoMemory at ends = (ends, at)
+    by (Refused refusal) at ends = ends
 
 module _ (rules : Rules) (waits_a waits_b : Bool) (y : Going) (report : Report) (plan : List Planned) (is_plan : IsPlan y.r.a.seen.items y.r.b.seen.items y.r.rows.items rules plan) (os : Outcomes) (end_a end_b : SideNow) (did_a : WritesDid waits_a A (sources y.r.a y.r.b) plan (now_of y.a []) end_a os) (did_b : WritesDid waits_b B (sources y.r.a y.r.b) plan (now_of y.b []) end_b os) (acts_a : ActsOrWaits waits_a y.a end_a.state) (acts_b : ActsOrWaits waits_b y.b end_b.state) (whole : IsWhole (sources y.r.a y.r.b) plan os) (copies_a : y.known_a ≡ true → AllMoveByEdit A y.a end_a.state plan os.put.items) (copies_b : y.known_b ≡ true → AllMoveByEdit B y.b end_b.state plan os.put.items) where
   finishes : (end : JobEnd) → Closes (sources y.r.a y.r.b) y.r.rows.items plan os (found_at y.k.stamp) (closing end_a y.exit_a end_b y.exit_b y.k y.exit_k) report end → Finishes rules waits_a waits_b y report end

@@ -1,9 +1,9 @@
-use Rattle.std.proofs.Common.{◌≡◌, ◌∙◌, ap, sym, arith, false, get_or}
+use Rattle.std.proofs.Common.{◌∙◌, ap, sym, arith, false, get_or}
 use Rattle.job_writes.specs.Writings.{sources, FitsPut, FitsRemoval, failed_after}
 use Rattle.job_writes.proofs.OrderLemmas.{no_step}
-use Rattle.job_rows.specs.RowsAfter.{row_after, rows_after, IsUnchanged}
-use Rattle.job_rows.proofs.RowLemmas.{fit_length, rows_turn, same_turn, differs_turn, whole}
-use Rattle.job_rows.proofs.building.rows_after.Goals as goal
+use Rattle.job_rows.specs.RowsAfter.{row_after, IsUnchanged}
+use Rattle.job_rows.proofs.RowLemmas.{fit_length, same_turn, differs_turn, whole}
+use Rattle.job_rows.proofs.building.any_differs.Goals as goal
 
 pub index-requires : goal.index-requires
 index-requires c = omega (arith, c.loop-i-test.true, fit_length (λ failed p. FitsPut p.step) false c.args.plan.now c.args.outcomes.now.put.items c.requires.whole.put)
@@ -21,18 +21,12 @@ loop-i-preserved c =
     let lf = fit_length (λ failed p. FitsPut p.step) false plan put c.requires.whole.put in
     let lg = fit_length (λ failed p. FitsRemoval failed p.step) (failed_after false put) plan removed c.requires.whole.removed in
     let inv = c.loop-i.invariant in
+    let one = c.differs_at-one in
     let at = ap (row_after x rows (get_or plan c.loop-i.i no_step)) c.outcome_of-outcome.ensures in
     record {
-      rows = rows_turn x rows plan put removed c.loop-i.i c.index.result.now c.index-in-loop-i.result.now c.loop-i-test.true lf lg c.index.ensures c.index-in-loop-i.ensures c.loop-i.after.rows.items c.add.new.self.rows.items c.in-Ok.next.row inv.rows c.in-Ok-add.ensures.rows (c.in-Ok.ensures.row ∙ at);
-      same = same_turn x rows plan put removed c.loop-i.i c.index.result.now c.index-in-loop-i.result.now c.loop-i-test.true lf lg c.index.ensures c.index-in-loop-i.ensures c.loop-i.after.changed c.in-Ok.next.changed c.add.new.self.changed c.in-Ok-add.ensures.changed inv.same (λ e. sym (c.in-Ok.ensures.row ∙ at) ∙ c.in-Ok.ensures.same e);
-      differs = differs_turn x rows plan put removed c.loop-i.i c.index.result.now c.index-in-loop-i.result.now c.loop-i-test.true lf lg c.index.ensures c.index-in-loop-i.ensures c.loop-i.after.changed c.in-Ok.next.changed c.add.new.self.changed c.in-Ok-add.ensures.changed inv.differs (λ e same. c.in-Ok.ensures.differs e ((c.in-Ok.ensures.row ∙ at) ∙ same));
+      same = same_turn x rows plan put removed c.loop-i.i c.index.result.now c.index-in-loop-i.result.now c.loop-i-test.true lf lg c.index.ensures c.index-in-loop-i.ensures c.loop-i.differs one.result c.either-differs.result c.either-differs.ensures inv.same (λ e. sym at ∙ one.ensures.same e);
+      differs = differs_turn x rows plan put removed c.loop-i.i c.index.result.now c.index-in-loop-i.result.now c.loop-i-test.true lf lg c.index.ensures c.index-in-loop-i.ensures c.loop-i.differs one.result c.either-differs.result c.either-differs.ensures inv.differs (λ e same. one.ensures.differs e (at ∙ same));
     }
-
-pub returns-clause-rows : goal.returns-clause-rows
-returns-clause-rows c =
-    let lf = fit_length (λ failed p. FitsPut p.step) false c.args.plan.now c.args.outcomes.now.put.items c.requires.whole.put in
-    let lg = fit_length (λ failed p. FitsRemoval failed p.step) (failed_after false c.args.outcomes.now.put.items) c.args.plan.now c.args.outcomes.now.removed.items c.requires.whole.removed in
-    whole (sources c.args.a.now c.args.b.now) c.args.rows.now c.args.plan.now c.args.outcomes.now.put.items c.args.outcomes.now.removed.items c.loop-i.i (λ ps fs gs. c.loop-i.after.rows.items ≡ rows_after (sources c.args.a.now c.args.b.now) c.args.rows.now ps fs gs) c.loop-i-test.false lf lg c.loop-i.invariant.rows
 
 pub returns-clause-same : goal.returns-clause-same
 returns-clause-same c same =
