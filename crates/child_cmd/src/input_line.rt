@@ -14,7 +14,7 @@ use values::Text;
 pub const MAX_LINE: usize = 4096;
 
 /// What a line is read into: one byte more than it may have.
-const ROOM: usize = 4097;
+const ROOM: usize = MAX_LINE + 1;
 
 /// Why a line can't be read.
 #[derive(Debug, Drop, Error)]
