@@ -1,0 +1,4 @@
+pub mod FetchLemmas
+pub mod LineLemmas
+pub mod ValueLemmas
+pub mod WayLemmas

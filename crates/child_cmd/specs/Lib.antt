@@ -1,0 +1,4 @@
+pub mod Fetching
+pub mod InputLines
+pub mod Values
+pub mod Ways

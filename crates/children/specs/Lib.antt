@@ -1,0 +1,3 @@
+pub mod ChildCalls
+pub mod Children
+pub mod Plays
