@@ -9,7 +9,7 @@ ghost use Rattle.job_rows.specs.RowsAfter.{outcome_of, row_of_both, row_kept, ro
 
 use crate::finding::row_of;
 use job_writes::{Outcome, Outcomes, seen_at};
-use side_reads::Holding;
+use side_reads::{Holding, room_for};
 use status_keeper::Row;
 use std::alloc::{AllocError, Global};
 use sync_plan::{Planned, Seen, Step};
@@ -270,7 +270,7 @@ fn all_rows(
     requires whole { IsWhole (sources a.now b.now) plan.now outcomes.now }
     ensures { IfOk result (λ after. after.items ≡ rows_after (sources a.now b.now) rows.now plan.now outcomes.now.put.items outcomes.now.removed.items) }
 {
-    let mut after = Vec::new(alloc);
+    let mut after = room_for(alloc, plan.len());
     for i in 0..plan.len() {
         let outcome = outcome_of(plan[i].step, &outcomes.put[i], &outcomes.removed[i]);
         match next_row(alloc, rows, a, b, &plan[i], outcome) {

@@ -13,7 +13,7 @@ ghost use Rattle.job_writes.specs.Writings.{now_of, sources, IsNamedFor, FitsPut
 
 use crate::outcome::Outcome;
 use crate::steps::{put_step, removal_turn};
-use side_reads::Holding;
+use side_reads::{Holding, room_for};
 use std::alloc::{AllocError, Global};
 use store_model::Store;
 use sync_plan::Planned;
@@ -56,7 +56,7 @@ fn put_all<A: Store, B: Store>(
     ensures same_a { A.setting a.new ≡ A.setting a.old }
     ensures same_b { B.setting b.new ≡ B.setting b.old }
 {
-    let mut outcomes = Vec::new(alloc);
+    let mut outcomes = room_for(alloc, plan.len());
     for planned in plan {
         match put_step(alloc, a, b, held_a, held_b, planned) {
             Ok(outcome) => {
@@ -121,7 +121,7 @@ fn remove_all<A: Store, B: Store>(
     ensures same_a { A.setting a.new ≡ A.setting a.old }
     ensures same_b { B.setting b.new ≡ B.setting b.old }
 {
-    let mut outcomes = Vec::new(alloc);
+    let mut outcomes = room_for(alloc, plan.len());
     let mut halted = failed;
     for planned in plan {
         match removal_turn(a, b, held_a, held_b, planned, halted) {

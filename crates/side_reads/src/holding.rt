@@ -5,6 +5,7 @@ ghost use Rattle.side_reads.specs.Places.{row_at};
 ghost use Rattle.side_reads.specs.Holdings.{asked, IsOfRow, IsOfText, IsLastTaken, AreTaken};
 
 use crate::places::Places;
+use crate::room::room_for;
 use item_text::Item;
 use status_keeper::Row;
 use std::alloc::{AllocError, Global};
@@ -108,8 +109,8 @@ impl Holding {
     {
         let mut entries = entries;
         let mut fetched = fetched;
-        let mut seen = Vec::new(alloc);
-        let mut items = Vec::new(alloc);
+        let mut seen = room_for(alloc, entries.len());
+        let mut items = room_for(alloc, entries.len());
         while let Some(entry) = entries.pop() {
             let taken = take_last(alloc, entry, places, &mut fetched)?;
             seen.push(taken.seen)?;

@@ -4,6 +4,8 @@
 
 mod holding;
 mod places;
+mod room;
 
 pub use holding::{Holding, asked};
 pub use places::Places;
+pub use room::room_for;
