@@ -1,6 +1,14 @@
 pub mod Borders
+pub mod ByUid
 pub mod Cuts
+pub mod Cutting
+pub mod Folding
+pub mod Grouping
+pub mod Marking
+pub mod Opening
 pub mod Pieces
 pub mod Reading
+pub mod Splitting
+pub mod TextReads
 pub mod Shortness
 pub mod Writing
