@@ -4,6 +4,7 @@ pub mod Cuts
 pub mod Cutting
 pub mod Folding
 pub mod Grouping
+pub mod JoinSteps
 pub mod Marking
 pub mod Opening
 pub mod Pieces
@@ -12,3 +13,4 @@ pub mod Splitting
 pub mod TextReads
 pub mod Shortness
 pub mod Writing
+pub mod Zones

@@ -1,5 +1,7 @@
 pub mod Folds
 pub mod Groups
+pub mod Joining
+pub mod Joins
 pub mod Kinds
 pub mod Marks
 pub mod Opened
