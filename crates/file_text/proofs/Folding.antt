@@ -26,14 +26,14 @@ stuck line [] none longer are = are
 stuck line (piece ∷ []) none longer are = omega arith
 stuck line (piece ∷ next ∷ more) none longer are = stuck line (next ∷ more) none longer (subst (λ (n : ℕ). ArePieces 74 (drop n line) (next ∷ more)) none are.2)
 
-last_piece : (count room : ℕ) (line : List ℕ) → length line ≤ room → pieces_of count room line ≡ line ∷ []
+pub last_piece : (count room : ℕ) (line : List ℕ) → length line ≤ room → pieces_of count room line ≡ line ∷ []
 unfolding pieces_of
 last_piece zero room line h = refl
 last_piece (suc count) room line h =
     let short : nat_le (length line) room ≡ true = grind (arith, nat_tests) in
     ap (λ (t : Bool). cond t (line ∷ []) (take (fitting room line) line ∷ pieces_of count 74 (drop (fitting room line) line))) short
 
-next_piece : (count room : ℕ) (line : List ℕ) → room < length line → pieces_of (suc count) room line ≡ take (fitting room line) line ∷ pieces_of count 74 (drop (fitting room line) line)
+pub next_piece : (count room : ℕ) (line : List ℕ) → room < length line → pieces_of (suc count) room line ≡ take (fitting room line) line ∷ pieces_of count 74 (drop (fitting room line) line)
 unfolding pieces_of
 next_piece count room line h =
     let long : nat_le (length line) room ≡ false = grind (arith, nat_tests) in

@@ -4,6 +4,7 @@ pub mod Cuts
 pub mod Cutting
 pub mod Folding
 pub mod Grouping
+pub mod ItemFiles
 pub mod JoinSteps
 pub mod Marking
 pub mod Opening
@@ -11,6 +12,7 @@ pub mod Pieces
 pub mod Reading
 pub mod Splitting
 pub mod TextReads
+pub mod Refolding
 pub mod Shortness
 pub mod Writing
 pub mod Zones

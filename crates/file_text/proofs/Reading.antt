@@ -93,11 +93,11 @@ pub read_in_front : (line bytes rest : List ℕ) → IsFolded line bytes → Has
 read_in_front line bytes rest folded plain none apart =
     without_none (bytes ++ rest) (no_mark line (bytes ++ rest) (front_of_folded line bytes rest folded) none) ∙ read_behind line bytes rest folded plain apart
 
-none_behind : texts_behind [] ≡ []
+pub none_behind : texts_behind [] ≡ []
 unfolding unfolded
 none_behind = refl
 
-none_continues : continues [] ≡ false
+pub none_continues : continues [] ≡ false
 unfolding continues
 none_continues = refl
 

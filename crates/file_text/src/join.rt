@@ -158,8 +158,9 @@ impl Joining {
         ensures err { IfErr result (λ e. e ≡ ItemError.NoMemory) }
     {
         let bump = Bump::new(alloc);
-        let Ok(lines) = marks_of(alloc, &bump, Lines::of(without_mark(text))) else {
-            return Err(ItemError::NoMemory);
+        let lines = match marks_of(alloc, &bump, Lines::of(without_mark(text))) {
+            Ok(lines) => lines,
+            Err(error) => return Err(error),
         };
         let Ok(()) = self.add(alloc, &lines) else {
             return Err(ItemError::NoMemory);

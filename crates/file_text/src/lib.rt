@@ -15,7 +15,10 @@ mod written;
 
 pub use folds::push_folded;
 pub use join::join_file;
-pub use laws::{folded_lines_are_short, folded_lines_are_unique, folded_lines_unfold};
+pub use laws::{
+    folded_lines_are_short, folded_lines_are_unique, folded_lines_unfold, items_are_files,
+    written_lines_are_read,
+};
 pub use split::{MAX_FILE, split_file};
 
 #[cfg(test)]

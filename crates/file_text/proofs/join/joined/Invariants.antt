@@ -1,4 +1,4 @@
-use Rattle.std.proofs.Common.{List, map, take}
+use Rattle.std.proofs.Common.{map, take}
 use Rattle.item_text.specs.Items.{ItemValue}
 use Rattle.file_text.specs.Joining.{IsJoining}
 use Rattle.file_text.specs.Joins.{item_marks}

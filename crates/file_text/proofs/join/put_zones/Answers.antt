@@ -1,4 +1,4 @@
-use Rattle.std.proofs.Common.{refl, ap, ◌++◌, ◌∷◌, [], List, ℕ, subst, string_bytes, map, take}
+use Rattle.std.proofs.Common.{refl, ◌++◌, ◌∷◌, [], List, subst, string_bytes, map, take}
 use Rattle.file_text.specs.Joining.{AreZones}
 use Rattle.file_text.specs.Spans.{parts_at}
 use Rattle.file_text.specs.Written.{written}
