@@ -13,6 +13,8 @@ pub mod Reading
 pub mod Splitting
 pub mod TextReads
 pub mod Refolding
+pub mod SameLines
 pub mod Shortness
+pub mod Trimming
 pub mod Writing
 pub mod Zones

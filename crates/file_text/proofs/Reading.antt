@@ -85,7 +85,7 @@ no_mark : (line text : List ℕ) → Front line text → HasNoMark line → HasN
 no_mark line text front none =
     subst HasNoMark (sym front.of_text) (mark_front front.piece front.more front.bytes (subst HasNoMark (sym front.of_line) none))
 
-without_none : (text : List ℕ) → HasNoMark text → line_texts text ≡ texts_behind text
+pub without_none : (text : List ℕ) → HasNoMark text → line_texts text ≡ texts_behind text
 unfolding without_mark physical_lines logical_lines
 without_none text none = ap texts_behind (cond-false (starts_with nat_eq text (239 ∷ 187 ∷ 191 ∷ [])) (drop 3 text) text none)
 

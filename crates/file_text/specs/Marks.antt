@@ -1,5 +1,5 @@
 -- Marks: what each line of a file of components is, and why a text is no such file. This project's own.
-use Rattle.std.specs.Prelude.{ℕ, if◌then◌else◌, List, [], ◌∷◌, ◌++◌, Option, Some, None, is_some}
+use Rattle.std.specs.Prelude.{ℕ, if◌then◌else◌, List, [], ◌∷◌, ◌++◌, map, Option, Some, None, is_some}
 use Rattle.item_text.specs.Lines.{Line, trimmed}
 use Rattle.item_text.specs.Components.{Kind, Opens, Closes, Blank, kind_of, Place, Before, Within, Behind, next_place, is_calendar, is_timezone, uid_at}
 use Rattle.item_text.specs.Refusals.{else_of, fault_at}
@@ -56,3 +56,7 @@ unfoldable pub marks_from : Place → List Line → List Mark
 marks_from place [] = []
 marks_from place (line ∷ rest) =
     marked place (trimmed line.text) (kind_of (trimmed line.text)) ++ marks_from (next_in_file place (kind_of (trimmed line.text))) rest
+
+-- the texts of lines
+abbrev pub mark_texts : List Mark → List (List ℕ)
+mark_texts marks = map (λ (mark : Mark). mark.text) marks

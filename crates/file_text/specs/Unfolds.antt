@@ -26,3 +26,8 @@ pub record IsLine (line : List ℕ) : Type 0 where
   pub utf8 : IsUtf8 line
   pub no_feed : HasNoFeed line
   pub begins : continues line ≡ false
+
+-- lines that can be written one behind another and are read again as they are: the first begins with no byte order mark
+abbrev pub AreLines : List (List ℕ) → Type 0
+AreLines [] = Unit {0}
+AreLines (line ∷ rest) = HasNoMark line × All IsLine (line ∷ rest)

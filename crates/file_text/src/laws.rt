@@ -4,13 +4,14 @@ ghost use Rattle.std.specs.Prelude.{◌≡◌, ◌≤◌, ◌++◌, ℕ, false, 
 ghost use Rattle.std.specs.List.{All, flat_map};
 ghost use Rattle.std.specs.Str.{IsUtf8};
 ghost use Rattle.std.specs.Str.Lines.{lines};
-ghost use Rattle.item_text.specs.Components.{Before};
-ghost use Rattle.item_text.specs.Items.{ItemValue, item_of};
-ghost use Rattle.item_text.specs.Lines.{continues, logical_lines};
+ghost use Rattle.item_text.specs.Components.{Before, placed};
+ghost use Rattle.item_text.specs.Items.{ItemValue, item_of, uid_among, fingerprint};
+ghost use Rattle.item_text.specs.Lines.{Line, continues, logical_lines};
 ghost use Rattle.file_text.specs.Folds.{IsFolded};
-ghost use Rattle.file_text.specs.Unfolds.{line_texts, texts_behind, HasNoFeed, HasNoMark, IsLine};
-ghost use Rattle.file_text.specs.Marks.{refusal_from};
-ghost use Rattle.file_text.specs.Written.{folded};
+ghost use Rattle.file_text.specs.Unfolds.{line_texts, texts_behind, HasNoFeed, HasNoMark, IsLine, AreLines};
+ghost use Rattle.file_text.specs.Joins.{item_marks};
+ghost use Rattle.file_text.specs.Marks.{refusal_from, marks_from, mark_texts};
+ghost use Rattle.file_text.specs.Written.{folded, written};
 
 /// A line is folded in one way.
 pub fn folded_lines_are_unique()
@@ -41,4 +42,18 @@ pub fn written_lines_are_read()
 /// The text of an item has no refusal as a file.
 pub fn items_are_files()
     ensures { (count : ℕ) (text : List ℕ) (item : ItemValue) → item_of text ≡ Some item → refusal_from count Before (logical_lines text) ≡ None }
+{}
+
+/// Lines tell the UID and the version of an item by their trimmed texts alone: blank lines, blanks at the ends of lines and folds tell
+/// nothing.
+pub fn marks_tell_the_item()
+    ensures uid { (first second : List Line) → mark_texts (marks_from Before first) ≡ mark_texts (marks_from Before second) → uid_among (placed first) ≡ uid_among (placed second) }
+    ensures version { (first second : List Line) → mark_texts (marks_from Before first) ≡ mark_texts (marks_from Before second) → fingerprint (placed first) ≡ fingerprint (placed second) }
+{}
+
+/// What is written of the lines of a text has the UID and the version of that text, where its lines are UTF-8, have no line feed and begin
+/// with no space and no tab, and the first begins with no byte order mark.
+pub fn written_lines_tell_the_item()
+    ensures uid { (text : List ℕ) → AreLines (mark_texts (item_marks text)) → uid_among (placed (logical_lines (written (item_marks text)))) ≡ uid_among (placed (logical_lines text)) }
+    ensures version { (text : List ℕ) → AreLines (mark_texts (item_marks text)) → fingerprint (placed (logical_lines (written (item_marks text)))) ≡ fingerprint (placed (logical_lines text)) }
 {}

@@ -17,7 +17,7 @@ pub use folds::push_folded;
 pub use join::join_file;
 pub use laws::{
     folded_lines_are_short, folded_lines_are_unique, folded_lines_unfold, items_are_files,
-    written_lines_are_read,
+    marks_tell_the_item, written_lines_are_read, written_lines_tell_the_item,
 };
 pub use split::{MAX_FILE, split_file};
 
