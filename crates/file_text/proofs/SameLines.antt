@@ -1,14 +1,14 @@
 -- SameLines: what the lines of a text tell of an item, they tell by their marks alone.
 use Rattle.std.proofs.Common.{◌≡◌, ℕ, Bool, true, false, cond, List, [], ◌∷◌, ◌++◌, map, Option, Some, None, refl, sym, ◌∙◌, ap}
-use Rattle.std.specs.List.{All, filter, filter_map, flat_map, cons_option}
+use Rattle.std.specs.List.{filter, filter_map, flat_map, cons_option}
 use Rattle.item_text.specs.Lines.{Line, trimmed, logical_lines}
 use Rattle.item_text.specs.Components.{Kind, Opens, Closes, Property, Blank, kind_of, Place, Before, Within, Behind, next_place, Placed, placed_at, placed_from, placed, uid_at, uid_of}
 use Rattle.item_text.specs.Items.{uid_among, fingerprint}
-use Rattle.item_text.specs.NormalForm.{keeps, open_at, is_kept, written_as, written, joined, in_order, normal_form}
+use Rattle.item_text.specs.NormalForm.{keeps, open_at, is_kept, written_as, written, normal_form}
 use Rattle.item_text.specs.Refusals.{first_of}
 use Rattle.file_text.specs.Joins.{item_marks}
 use Rattle.file_text.specs.Marks.{next_in_file, marked, marks_from, mark_texts}
-use Rattle.file_text.specs.Unfolds.{line_texts, HasNoMark, IsLine, AreLines}
+use Rattle.file_text.specs.Unfolds.{line_texts, AreLines}
 use Rattle.file_text.specs.Written.{folded}
 use Rattle.file_text.specs.Written as bytes
 use Rattle.file_text.specs.declared.marks.Mark.{Mark}
