@@ -25,12 +25,12 @@ at_border (b ∷ bs) h some k = grind (arith, nat_tests)
 front_is : (n : ℕ) (text : List ℕ) → get_or (drop n text) 0 0 ≡ get_or text n 0
 front_is n text = get_or-drop n text 0 0 ∙ ap (λ (m : ℕ). get_or text m 0) (omega arith)
 
-fits_at : (n : ℕ) (text : List ℕ) → IsCharBoundary text n → fits n text ≡ true
+pub fits_at : (n : ℕ) (text : List ℕ) → IsCharBoundary text n → fits n text ≡ true
 fits_at n text h =
     let border : is_border (drop n text) ≡ true = border_at (drop n text) (λ some low. rw (front_is n text) (h.1 (omega (arith, length-drop n text)) (rw (front_is n text) at low))) in
     and_from (nat_le n (length text)) (is_border (drop n text)) (le-leb n (length text) h.0) border
 
-at_fits : (n : ℕ) (text : List ℕ) → fits n text ≡ true → IsCharBoundary text n
+pub at_fits : (n : ℕ) (text : List ℕ) → fits n text ≡ true → IsCharBoundary text n
 at_fits n text h =
     let parts = and_parts (nat_le n (length text)) (is_border (drop n text)) h in
     (leb-true n (length text) parts.0, λ below low. rw (← front_is n text) (at_border (drop n text) parts.1 (omega (arith, length-drop n text)) (rw (front_is n text) low)))
@@ -54,7 +54,7 @@ fitting_is (suc n) text count below at between =
     fitting_more n text count below at between (λ less. fitting_is n text count less at (record { none = λ i above upto. between.none i above (omega arith) })) (cases_eq count (suc n))
 
 -- a text has a border behind its first character
-some_border : (text : List ℕ) → IsUtf8 text → 0 < length text → (i : ℕ) × (0 < i) × (i ≤ 4) × IsCharBoundary text i
+pub some_border : (text : List ℕ) → IsUtf8 text → 0 < length text → (i : ℕ) × (0 < i) × (i ≤ 4) × IsCharBoundary text i
 some_border text ([], (scalar, is)) some = absurd (omega (arith, ap length is))
 some_border text (c ∷ cs, (scalar, is)) some =
     let size = len_utf8_bounds c in

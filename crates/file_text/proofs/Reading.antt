@@ -85,7 +85,7 @@ no_mark : (line text : List ℕ) → Front line text → HasNoMark line → HasN
 no_mark line text front none =
     subst HasNoMark (sym front.of_text) (mark_front front.piece front.more front.bytes (subst HasNoMark (sym front.of_line) none))
 
-without_none : (text : List ℕ) → HasNoMark text → line_texts text ≡ texts_behind text
+pub without_none : (text : List ℕ) → HasNoMark text → line_texts text ≡ texts_behind text
 unfolding without_mark physical_lines logical_lines
 without_none text none = ap texts_behind (cond-false (starts_with nat_eq text (239 ∷ 187 ∷ 191 ∷ [])) (drop 3 text) text none)
 
@@ -93,11 +93,11 @@ pub read_in_front : (line bytes rest : List ℕ) → IsFolded line bytes → Has
 read_in_front line bytes rest folded plain none apart =
     without_none (bytes ++ rest) (no_mark line (bytes ++ rest) (front_of_folded line bytes rest folded) none) ∙ read_behind line bytes rest folded plain apart
 
-none_behind : texts_behind [] ≡ []
+pub none_behind : texts_behind [] ≡ []
 unfolding unfolded
 none_behind = refl
 
-none_continues : continues [] ≡ false
+pub none_continues : continues [] ≡ false
 unfolding continues
 none_continues = refl
 

@@ -1,2 +1,13 @@
 pub mod Folds
+pub mod Groups
+pub mod Joining
+pub mod Joins
+pub mod Kinds
+pub mod Marks
+pub mod Opened
+pub mod Parts
+pub mod Seen
+pub mod Spans
+pub mod Splits
 pub mod Unfolds
+pub mod Written

@@ -1,11 +1,17 @@
 //! What a line is that is written folded: one text, short, and read again the line.
 
-ghost use Rattle.std.specs.Prelude.{◌≡◌, ◌≤◌, ◌++◌, ℕ, false, List, [], ◌∷◌, length};
-ghost use Rattle.std.specs.List.{All};
+ghost use Rattle.std.specs.Prelude.{◌≡◌, ◌≤◌, ◌++◌, ℕ, false, List, [], ◌∷◌, length, Some, None};
+ghost use Rattle.std.specs.List.{All, flat_map};
+ghost use Rattle.std.specs.Str.{IsUtf8};
 ghost use Rattle.std.specs.Str.Lines.{lines};
-ghost use Rattle.item_text.specs.Lines.{continues};
+ghost use Rattle.item_text.specs.Components.{Before, placed};
+ghost use Rattle.item_text.specs.Items.{ItemValue, item_of, uid_among, fingerprint};
+ghost use Rattle.item_text.specs.Lines.{Line, continues, logical_lines};
 ghost use Rattle.file_text.specs.Folds.{IsFolded};
-ghost use Rattle.file_text.specs.Unfolds.{line_texts, texts_behind, HasNoFeed, HasNoMark};
+ghost use Rattle.file_text.specs.Unfolds.{line_texts, texts_behind, HasNoFeed, HasNoMark, IsLine, AreLines};
+ghost use Rattle.file_text.specs.Joins.{item_marks};
+ghost use Rattle.file_text.specs.Marks.{refusal_from, marks_from, mark_texts};
+ghost use Rattle.file_text.specs.Written.{folded, written};
 
 /// A line is folded in one way.
 pub fn folded_lines_are_unique()
@@ -24,4 +30,30 @@ pub fn folded_lines_unfold()
 pub fn folded_lines_are_short()
     ensures alone { (line bytes : List ℕ) → IsFolded line bytes → All (λ (physical : List ℕ). length physical ≤ 75) (lines bytes) }
     ensures in_front { (line bytes rest : List ℕ) → IsFolded line bytes → All (λ (physical : List ℕ). length physical ≤ 75) (lines rest) → All (λ (physical : List ℕ). length physical ≤ 75) (lines (bytes ++ rest)) }
+{}
+
+/// Lines of UTF-8 without a line feed, none of which begins with a space or a tab, are read again as they were where they are written
+/// folded, one behind another, and the first begins with no byte order mark.
+pub fn written_lines_are_read()
+    ensures folded { (line : List ℕ) → IsUtf8 line → IsFolded line (folded line) }
+    ensures read { (line : List ℕ) (rest : List (List ℕ)) → HasNoMark line → All IsLine (line ∷ rest) → line_texts (flat_map folded (line ∷ rest)) ≡ line ∷ rest }
+{}
+
+/// The text of an item has no refusal as a file.
+pub fn items_are_files()
+    ensures { (count : ℕ) (text : List ℕ) (item : ItemValue) → item_of text ≡ Some item → refusal_from count Before (logical_lines text) ≡ None }
+{}
+
+/// Lines tell the UID and the version of an item by their trimmed texts alone: blank lines, blanks at the ends of lines and folds tell
+/// nothing.
+pub fn marks_tell_the_item()
+    ensures uid { (first second : List Line) → mark_texts (marks_from Before first) ≡ mark_texts (marks_from Before second) → uid_among (placed first) ≡ uid_among (placed second) }
+    ensures version { (first second : List Line) → mark_texts (marks_from Before first) ≡ mark_texts (marks_from Before second) → fingerprint (placed first) ≡ fingerprint (placed second) }
+{}
+
+/// What is written of the lines of a text has the UID and the version of that text, where its lines are UTF-8, have no line feed and begin
+/// with no space and no tab, and the first begins with no byte order mark.
+pub fn written_lines_tell_the_item()
+    ensures uid { (text : List ℕ) → AreLines (mark_texts (item_marks text)) → uid_among (placed (logical_lines (written (item_marks text)))) ≡ uid_among (placed (logical_lines text)) }
+    ensures version { (text : List ℕ) → AreLines (mark_texts (item_marks text)) → fingerprint (placed (logical_lines (written (item_marks text)))) ≡ fingerprint (placed (logical_lines text)) }
 {}
