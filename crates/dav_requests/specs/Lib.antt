@@ -1,4 +1,3 @@
 pub mod Bodies
 pub mod Requests
-
--- pub mod Paths
+pub mod Paths

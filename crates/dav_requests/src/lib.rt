@@ -3,12 +3,12 @@
 
 mod bodies;
 mod makers;
-//mod paths;
+mod paths;
 mod site;
 
 pub use makers::{
     delete_request, list_request, meta_request, mkcol_request, multiget_request, prop_request,
     put_request,
 };
-//pub use paths::path_of;
+pub use paths::path_of;
 pub use site::{DavKind, DavSite};
