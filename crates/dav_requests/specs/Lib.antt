@@ -1,3 +1,4 @@
 pub mod Bodies
-pub mod Requests
+pub mod Laws
 pub mod Paths
+pub mod Requests

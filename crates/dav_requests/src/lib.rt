@@ -2,10 +2,12 @@
 #![tactic(auto)]
 
 mod bodies;
+mod laws;
 mod makers;
 mod paths;
 mod site;
 
+pub use laws::escaped_texts_are_read_back;
 pub use makers::{
     delete_request, list_request, meta_request, mkcol_request, multiget_request, prop_request,
     put_request,
