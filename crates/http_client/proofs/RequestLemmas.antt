@@ -19,7 +19,7 @@ pub head_written : (r : Request) (o o1 o2 o3 o4 o5 o6 o7 o8 : List ℕ)
     → o4 ≡ o3 ++ field_line (codes "Accept-Encoding") (codes "identity")
     → o5 ≡ o4 ++ field_line (codes "Connection") (codes "close")
     → o6 ≡ o5 ++ login_lines r.login
-    → o7 ≡ o6 ++ extra_lines r.extra.items
+    → o7 ≡ o6 ++ extra_lines r.extra
     → o8 ≡ o7 ++ length_lines (sent_body r.method)
     → o8 ≡ o ++ head_bytes r
 unfolding head_bytes

@@ -71,7 +71,7 @@ head_bytes r =
     ++ field_line (codes "Accept-Encoding") (codes "identity")
     ++ field_line (codes "Connection") (codes "close")
     ++ login_lines r.login
-    ++ extra_lines r.extra.items
+    ++ extra_lines r.extra
     ++ length_lines (sent_body r.method)
 
 -- the head, an empty line and the body

@@ -5,7 +5,7 @@ ghost use Rattle.http_client.specs.Request.{method_name, sent_body, body_bytes, 
 
 use base64::engine::general_purpose::STANDARD;
 use std::alloc::{AllocError, Global};
-use values::{Bytes, Text};
+use values::{Bytes, Sequence, Text};
 
 /// The port that a `Host` field leaves out (RFC 9110, section 4.2.1).
 const DEFAULT_PORT: u16 = 80;
@@ -36,7 +36,7 @@ pub struct Request {
     /// A user's name and password, sent as basic authentication (RFC 7617).
     pub login: Option<(Text, Text)>,
     /// Further header fields, names and values, in the order in which they are sent.
-    pub extra: Vec<(Text, Text)>,
+    pub extra: Sequence<(Text, Text)>,
 }
 
 impl Method {
@@ -172,8 +172,8 @@ fn in_base64(alloc: Global, text: &str) -> Result<String, AllocError>
 }
 
 /// Writes the further fields.
-fn put_extra(out: &mut Vec<u8>, fields: &Vec<(Text, Text)>) -> Result<(), AllocError>
-    ensures { OnOk result (out.new.items ≡ out.old.items ++ extra_lines fields.now.items) }
+fn put_extra(out: &mut Vec<u8>, fields: &Sequence<(Text, Text)>) -> Result<(), AllocError>
+    ensures { OnOk result (out.new.items ≡ out.old.items ++ extra_lines fields.now) }
 {
     for (name, value) in fields.as_slice() {
         put_field(out, name.as_str(), value.as_str())?;

@@ -6,7 +6,7 @@ use crate::{Method, Reply, ReplyError, Request, read_reply};
 use std::alloc::{AllocError, Global};
 use std::borrow::CowSlice;
 use std::test::Fail;
-use values::{Bytes, Text};
+use values::{Bytes, Sequence, Text};
 
 /// What is read of bytes: a code, a body that is lent or made, and a length, or why there is none.
 #[derive(Clone, Copy)]
@@ -255,7 +255,7 @@ fn refusals_are_displayed(rt: HostRuntime) -> Result<(), Fail> {
 }
 
 fn request(alloc: Global, method: Method, port: u16) -> Result<Request, AllocError> {
-    let mut extra = Vec::new(alloc);
+    let mut extra = Sequence::new(alloc);
     extra.push((
         Text::copy_of(alloc, "Content-Type")?,
         Text::copy_of(alloc, "text/vcard; charset=utf-8")?,
@@ -285,7 +285,7 @@ fn requests_are_written(rt: HostRuntime) -> Result<(), Fail> {
     );
     let delete = Request {
         login: None,
-        extra: Vec::new(rt.alloc()),
+        extra: Sequence::new(rt.alloc()),
         ..request(rt.alloc(), Method::Delete, 80)?
     };
     assert_eq!(rt;

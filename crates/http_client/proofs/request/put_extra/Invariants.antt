@@ -3,4 +3,4 @@ use Rattle.http_client.specs.Request.{extra_lines}
 use Rattle.http_client.proofs.request.put_extra.Given as goal
 
 abbrev pub invariant-loop-name : goal.invariant-loop-name
-invariant-loop-name l = l.out.items ++ extra_lines (drop l.name-index l.fields.items) ≡ l.initial.out.items ++ extra_lines l.fields.items
+invariant-loop-name l = l.out.items ++ extra_lines (drop l.name-index l.fields) ≡ l.initial.out.items ++ extra_lines l.fields
