@@ -21,8 +21,6 @@ mod outfits;
 #[cfg(test)]
 mod real_folder;
 #[cfg(test)]
-mod requests;
-#[cfg(test)]
 mod std_streams;
 #[cfg(test)]
 mod vdir;

@@ -6,6 +6,8 @@ mod laws;
 mod makers;
 mod paths;
 mod site;
+#[cfg(test)]
+mod tests;
 
 pub use laws::escaped_texts_are_read_back;
 pub use makers::{

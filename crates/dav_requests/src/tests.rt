@@ -1,6 +1,6 @@
 //! What is sent to a server, and the paths that it answers. The bytes come from a program in another language.
 
-use dav_requests::{
+use crate::{
     DavKind, DavSite, delete_request, list_request, meta_request, mkcol_request, multiget_request,
     path_of, prop_request, put_request,
 };
