@@ -11,7 +11,7 @@ use Rattle.item_text.proofs.Relabelled.{fine_of, last_of}
 use Rattle.file_text.specs.Marks.{between, next_in_file, fault_in_file, fault_of_end, refusal_from}
 
 -- a line that has no fault in an item has none in a file, and leads to the same place
-fine_line : (number : ℕ) (place : Place) (kind : Kind) → fault_at number place kind ≡ None → (fault_in_file number (between place) kind ≡ None) × (next_in_file (between place) kind ≡ between (next_place place kind))
+pub fine_line : (number : ℕ) (place : Place) (kind : Kind) → fault_at number place kind ≡ None → (fault_in_file number (between place) kind ≡ None) × (next_in_file (between place) kind ≡ between (next_place place kind))
 unfolding fault_at fault_in_file next_in_file next_place between
 fine_line number Before (Opens name) h = (refl, refl)
 fine_line number Before (Closes name) h = cc
@@ -23,11 +23,11 @@ fine_line number Behind (Closes name) h = cc
 fine_line number Behind (Property name value) h = cc
 fine_line number Behind Blank h = (refl, refl)
 
-first_none : {X : Type 0} (first : Option X) (rest : List X) → cons_option first rest ≡ [] → (first ≡ None) × (rest ≡ [])
+pub first_none : {X : Type 0} (first : Option X) (rest : List X) → cons_option first rest ≡ [] → (first ≡ None) × (rest ≡ [])
 first_none None rest h = (refl, h)
 first_none (Some x) rest h = cc
 
-none_else : (fault rest : Option ItemError) → fault ≡ None → rest ≡ None → else_of fault rest ≡ None
+pub none_else : (fault rest : Option ItemError) → fault ≡ None → rest ≡ None → else_of fault rest ≡ None
 unfolding else_of
 none_else fault rest h k = ap (λ (f : Option ItemError). else_of f rest) h ∙ k
 

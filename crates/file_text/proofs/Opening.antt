@@ -1,74 +1,100 @@
--- Opening: the places in a file that a stack of open components stands for.
-use Rattle.std.proofs.Common.{◌≡◌, ℕ, Bool, false, List, [], ◌∷◌, ◌++◌, length, Option, None, is_some, Bor, refl, sym, ◌∙◌, ap, arith}
-use Rattle.item_text.specs.Components.{upper, Kind, Opens, Closes, Property, Blank, Place, Before, Within, outside_of, next_place, uid_at}
+-- Opening: the places in a file that the open components stand for.
+use Rattle.std.proofs.Common.{◌≡◌, ◌==◌, ℕ, Bool, true, false, List, [], ◌∷◌, length, Option, None, is_some, refl, sym, ◌∙◌, ap, arith, eqb-true}
+use Rattle.item_text.specs.Components.{Kind, Opens, Closes, Property, Blank, Place, Before, Within, Behind, next_place, holds_uid, uid_at}
 use Rattle.item_text.specs.declared.item.ItemError.{ItemError}
-use Rattle.item_text.specs.Refusals.{fault_at}
+use Rattle.item_text.specs.Refusals.{fault_at, fault_of_end, first_of}
 use Rattle.item_text.specs.Places.{place_at}
-use Rattle.item_text.proofs.Stacks.{names, names_push, named}
+use Rattle.item_text.proofs.Stacks.{named}
 use Rattle.file_text.specs.Marks.{between, next_in_file, fault_in_file, role_at}
+use Rattle.file_text.specs.Marks as file
 use Rattle.file_text.specs.declared.marks.Role.{Role}
 
-pub entered : (xs ys : List (Bor (List ℕ))) (x : Bor (List ℕ)) → ys ≡ xs ++ (x ∷ []) → place_at (names ys) false ≡ Within (upper x.now ∷ names xs)
-unfolding place_at
-entered xs ys x h = ap (λ (zs : List (Bor (List ℕ))). place_at (names zs) false) h ∙ ap (λ (ns : List (List ℕ)). place_at ns false) (names_push xs x)
+abbrev is_outside : List (List ℕ) → Bool
+is_outside ns = length ns == 0
 
-outside_is : (name : List ℕ) (outer : List (List ℕ)) → place_at outer false ≡ between (outside_of (name ∷ outer))
-unfolding place_at outside_of between
-outside_is name [] = refl
-outside_is name (next ∷ more) = refl
+pub place_outside : (ns : List (List ℕ)) (begun : Bool) → is_outside ns ≡ true → between (place_at ns begun) ≡ Before
+unfolding place_at between
+place_outside [] false h = refl
+place_outside [] true h = refl
+place_outside (n ∷ ns) begun h = absurd (omega (arith, eqb-true (length (n ∷ ns)) 0 h))
 
-pub left : (xs ys : List (Bor (List ℕ))) (x : Bor (List ℕ)) → xs ≡ ys ++ (x ∷ []) → place_at (names ys) false ≡ between (outside_of (names xs))
-left xs ys x h = outside_is (upper x.now) (names ys) ∙ ap (λ (ns : List (List ℕ)). between (outside_of ns)) (sym (ap names h ∙ names_push ys x))
+pub between_is : (place : Place) → place ≡ Before → between place ≡ Before
+unfolding between
+between_is place h = ap between h
 
-pub left_none : (xs ys : List (Bor (List ℕ))) → xs ≡ ys ++ [] → length ys ≡ 0 → place_at (names ys) false ≡ between (outside_of (names xs))
-unfolding place_at outside_of between
-left_none xs [] h k = ap (λ (zs : List (Bor (List ℕ))). between (outside_of (names zs))) (sym h)
-left_none xs (y ∷ ys) h k = absurd (omega arith)
+pub place_within : (ns : List (List ℕ)) (begun : Bool) → is_outside ns ≡ false → between (place_at ns begun) ≡ place_at ns begun
+unfolding place_at between
+place_within [] begun h = absurd (apart h)
+  where
+    apart : ◌≡◌ {A = Bool} true false → ⊥
+    apart e = cc
+place_within (n ∷ ns) begun h = refl
 
-pub went_in : (ns : List (List ℕ)) (name : List ℕ) → Within (name ∷ ns) ≡ next_in_file (place_at ns false) (Opens name)
-unfolding place_at next_place between next_in_file
-went_in [] name = refl
-went_in (n ∷ ns) name = refl
+-- no UID is given between components
+pub uid_between : (place : Place) (kind : Kind) → uid_at place kind ≡ uid_at (between place) kind
+unfolding uid_at holds_uid between
+uid_between Before kind = refl
+uid_between Behind (Property name value) = refl
+uid_between Behind (Opens name) = refl
+uid_between Behind (Closes name) = refl
+uid_between Behind Blank = refl
+uid_between (Within names) kind = refl
 
-pub went_out : (number : ℕ) (ns : List (List ℕ)) (name : List ℕ) → fault_in_file number (place_at ns false) (Closes name) ≡ None → between (outside_of ns) ≡ next_in_file (place_at ns false) (Closes name)
-unfolding place_at fault_at fault_in_file next_place next_in_file
-went_out number [] name h = cc
-went_out number (n ∷ ns) name h = refl
+pub fault_outside : (number : ℕ) (ns : List (List ℕ)) (begun : Bool) (kind : Kind) {result : Option ItemError} → is_outside ns ≡ true → result ≡ fault_in_file number Before kind → result ≡ fault_in_file number (between (place_at ns begun)) kind
+fault_outside number ns begun kind h told = told ∙ ap (λ (p : Place). fault_in_file number p kind) (sym (place_outside ns begun h))
 
-pub went_on : (ns : List (List ℕ)) (name value : List ℕ) → place_at ns false ≡ next_in_file (place_at ns false) (Property name value)
-unfolding place_at next_place between next_in_file
-went_on [] name value = refl
-went_on (n ∷ ns) name value = refl
+pub fault_within : (number : ℕ) (ns : List (List ℕ)) (begun : Bool) (kind : Kind) → is_outside ns ≡ false → fault_at number (place_at ns begun) kind ≡ fault_in_file number (between (place_at ns begun)) kind
+unfolding place_at between fault_in_file
+fault_within number [] begun kind h = absurd (apart h)
+  where
+    apart : ◌≡◌ {A = Bool} true false → ⊥
+    apart e = cc
+fault_within number (n ∷ ns) begun kind h = refl
 
-pub went_by : (ns : List (List ℕ)) → place_at ns false ≡ next_in_file (place_at ns false) Blank
-unfolding place_at next_place between next_in_file
-went_by [] = refl
-went_by (n ∷ ns) = refl
+pub end_outside : (count : ℕ) (ns : List (List ℕ)) (begun : Bool) → is_outside ns ≡ true → None ≡ file.fault_of_end count (between (place_at ns begun))
+unfolding file.fault_of_end
+end_outside count ns begun h = sym (ap (file.fault_of_end count) (place_outside ns begun h))
 
-pub place_none : (ns : List (List ℕ)) → ns ≡ [] → place_at ns false ≡ Before
-unfolding place_at
-place_none ns h = ap (λ (xs : List (List ℕ)). place_at xs false) h
+pub end_within : (count : ℕ) (ns : List (List ℕ)) (begun : Bool) → is_outside ns ≡ false → first_of (fault_of_end count (place_at ns begun)) ≡ file.fault_of_end count (between (place_at ns begun))
+unfolding place_at between first_of fault_of_end file.fault_of_end
+end_within count [] begun h = absurd (apart h)
+  where
+    apart : ◌≡◌ {A = Bool} true false → ⊥
+    apart e = cc
+end_within count (n ∷ ns) begun h = refl
 
--- the fault of a line where the names are known
-pub fault_outside : (number : ℕ) (ns : List (List ℕ)) (kind : Kind) {result : Option ItemError} → ns ≡ [] → result ≡ fault_in_file number Before kind → result ≡ fault_in_file number (place_at ns false) kind
-fault_outside number ns kind h told = told ∙ ap (λ (p : Place). fault_in_file number p kind) (sym (place_none ns h))
+no_fault_before : (number : ℕ) (kind : Kind) → fault_in_file number Before kind ≡ None → fault_at number Before kind ≡ None
+unfolding fault_in_file fault_at
+no_fault_before number (Opens name) h = h
+no_fault_before number (Closes name) h = cc
+no_fault_before number (Property name value) h = cc
+no_fault_before number Blank h = h
 
-pub fault_inside : (number : ℕ) (ns : List (List ℕ)) (name : List ℕ) (outer : List (List ℕ)) (kind : Kind) {uid : Option (List ℕ)} {result : Option ItemError} → ns ≡ name ∷ outer
-    → uid ≡ uid_at (place_at ns false) kind → (uid ≡ uid_at (Within (name ∷ outer)) kind → result ≡ fault_at number (Within (name ∷ outer)) kind) → result ≡ fault_in_file number (place_at ns false) kind
-unfolding fault_in_file
-fault_inside number ns name outer kind h k told =
-    let at : place_at ns false ≡ Within (name ∷ outer) = named ns false name outer h in
-    told (k ∙ ap (λ (p : Place). uid_at p kind) at) ∙ ap (λ (p : Place). fault_in_file number p kind) (sym at)
+-- a line that has no fault in a file has none where a component may open
+pub no_fault : (number : ℕ) (place : Place) (kind : Kind) → fault_in_file number (between place) kind ≡ None → fault_at number (between place) kind ≡ None
+unfolding between fault_in_file
+no_fault number Before kind h = no_fault_before number kind h
+no_fault number Behind kind h = no_fault_before number kind h
+no_fault number (Within names) kind h = h
+
+-- the place behind a line
+pub went : (place start opened : Place) (kind : Kind) → place ≡ next_place start kind → start ≡ opened → between place ≡ next_in_file opened kind
+unfolding next_in_file
+went place start opened kind h e = ap between h ∙ ap (λ (p : Place). between (next_place p kind)) e
 
 -- what a line is where the names are known
-pub role_outside : (ns : List (List ℕ)) (kind : Kind) (role : Role) → ns ≡ [] → role ≡ role_at Before kind → role ≡ role_at (place_at ns false) kind
-role_outside ns kind role h told = told ∙ ap (λ (p : Place). role_at p kind) (sym (place_none ns h))
+pub role_outside : (ns : List (List ℕ)) (begun : Bool) (kind : Kind) (role : Role) → ns ≡ [] → role ≡ role_at Before kind → role ≡ role_at (between (place_at ns begun)) kind
+role_outside ns begun kind role h told = told ∙ ap (λ (p : Place). role_at p kind) (sym (place_outside ns begun (ap is_outside h)))
 
-pub role_direct : (ns : List (List ℕ)) (top : List ℕ) (kind : Kind) (role : Role) → ns ≡ top ∷ [] → role ≡ role_at (Within (top ∷ [])) kind → role ≡ role_at (place_at ns false) kind
-role_direct ns top kind role h told = told ∙ ap (λ (p : Place). role_at p kind) (sym (named ns false top [] h))
+within_is : (ns : List (List ℕ)) (begun : Bool) (name : List ℕ) (outer : List (List ℕ)) → ns ≡ name ∷ outer → between (place_at ns begun) ≡ Within (name ∷ outer)
+unfolding between
+within_is ns begun name outer h = ap between (named ns begun name outer h)
 
-pub role_deep : (ns : List (List ℕ)) (name next : List ℕ) (outer : List (List ℕ)) (kind : Kind) (gives : Bool) (role : Role) → ns ≡ name ∷ next ∷ outer → gives ≡ is_some (uid_at (place_at ns false) kind)
-    → ((kind : Kind) (name next : List ℕ) (outer : List (List ℕ)) → gives ≡ is_some (uid_at (Within (name ∷ next ∷ outer)) kind) → role ≡ role_at (Within (name ∷ next ∷ outer)) kind) → role ≡ role_at (place_at ns false) kind
-role_deep ns name next outer kind gives role h k told =
-    let at : place_at ns false ≡ Within (name ∷ next ∷ outer) = named ns false name (next ∷ outer) h in
+pub role_direct : (ns : List (List ℕ)) (begun : Bool) (top : List ℕ) (kind : Kind) (role : Role) → ns ≡ top ∷ [] → role ≡ role_at (Within (top ∷ [])) kind → role ≡ role_at (between (place_at ns begun)) kind
+role_direct ns begun top kind role h told = told ∙ ap (λ (p : Place). role_at p kind) (sym (within_is ns begun top [] h))
+
+pub role_deep : (ns : List (List ℕ)) (begun : Bool) (name next : List ℕ) (outer : List (List ℕ)) (kind : Kind) (gives : Bool) (role : Role) → ns ≡ name ∷ next ∷ outer → gives ≡ is_some (uid_at (between (place_at ns begun)) kind)
+    → ((kind : Kind) (name next : List ℕ) (outer : List (List ℕ)) → gives ≡ is_some (uid_at (Within (name ∷ next ∷ outer)) kind) → role ≡ role_at (Within (name ∷ next ∷ outer)) kind) → role ≡ role_at (between (place_at ns begun)) kind
+role_deep ns begun name next outer kind gives role h k told =
+    let at : between (place_at ns begun) ≡ Within (name ∷ next ∷ outer) = within_is ns begun name (next ∷ outer) h in
     told kind name next outer (k ∙ ap (λ (p : Place). is_some (uid_at p kind)) at) ∙ ap (λ (p : Place). role_at p kind) (sym at)

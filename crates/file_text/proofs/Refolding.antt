@@ -19,7 +19,7 @@ border_by true n m text h at = at_fits (suc n) text h
 border_by false n m text h at = at
 
 -- what fits ends between characters
-border : (n : ℕ) (text : List ℕ) → IsUtf8 text → IsCharBoundary text (fitting n text)
+pub border : (n : ℕ) (text : List ℕ) → IsUtf8 text → IsCharBoundary text (fitting n text)
 unfolding fitting
 border zero text utf8 = IsCharBoundary-start text utf8
 border (suc n) text utf8 = border_by (fits (suc n) text) n (fitting n text) text refl (border n text utf8)

@@ -17,16 +17,16 @@ use Rattle.file_text.proofs.Refolding.{lines_read}
 use Rattle.file_text.proofs.Trimming.{trimmed_twice}
 
 -- what a line tells, by its place, its text and its kind
-abbrev Telling : Type 0 → Type 0
+abbrev pub Telling : Type 0 → Type 0
 Telling X = Place → List ℕ → Kind → Option X
 
 -- what lines tell behind a place
-walk : {X : Type 0} → Telling X → Place → List Line → List X
+unfoldable pub walk : {X : Type 0} → Telling X → Place → List Line → List X
 walk tell place [] = []
 walk tell place (line ∷ rest) = cons_option (tell place (trimmed line.text) (kind_of (trimmed line.text))) (walk tell (next_place place (kind_of (trimmed line.text))) rest)
 
 -- lines of these texts
-abbrev lines_of : List (List ℕ) → List Line
+abbrev pub lines_of : List (List ℕ) → List Line
 lines_of texts = map (λ text. record { number = 0; text = text }) texts
 
 next_blank : (place : Place) → next_place place Blank ≡ place
@@ -57,7 +57,7 @@ module _ {X : Type 0} (tell : Telling X) (no_blank : (place : Place) (text : Lis
   any_line place text (Property name value) role rest more trim is e = one_line place text (Property name value) rest (lines_of (mark_texts more)) trim is e
 
   -- the marks tell the same
-  marks_tell : (place role : Place) (lines : List Line) → walk tell place lines ≡ walk tell place (lines_of (mark_texts (marks_from role lines)))
+  pub marks_tell : (place role : Place) (lines : List Line) → walk tell place lines ≡ walk tell place (lines_of (mark_texts (marks_from role lines)))
   unfolding walk marks_from
   marks_tell place role [] = refl
   marks_tell place role (line ∷ rest) =
@@ -77,23 +77,23 @@ module _ {X : Type 0} (tell : Telling X) (no_blank : (place : Place) (text : Lis
   same_texts role first second h = texts_tell Before first ∙ (ap (λ (ts : List (List ℕ)). walk tell Before (lines_of ts)) h ∙ sym (marks_tell Before role second))
 
 -- the UIDs
-uids : Telling (List ℕ)
+unfoldable pub uids : Telling (List ℕ)
 uids place text kind = uid_at place kind
 
-no_uid : (place : Place) (text : List ℕ) → uids place text Blank ≡ None
+pub no_uid : (place : Place) (text : List ℕ) → uids place text Blank ≡ None
 unfolding uids uid_at
 no_uid place text = refl
 
-uid_walk : (place : Place) (lines : List Line) → filter_map uid_of (placed_from place lines) ≡ walk uids place lines
+pub uid_walk : (place : Place) (lines : List Line) → filter_map uid_of (placed_from place lines) ≡ walk uids place lines
 unfolding placed_from placed_at uid_of walk uids
 uid_walk place [] = refl
 uid_walk place (line ∷ rest) = ap (λ (xs : List (List ℕ)). cons_option (uid_at place (kind_of (trimmed line.text))) xs) (uid_walk (next_place place (kind_of (trimmed line.text))) rest)
 
 -- the lines that the normal form keeps
-kept : Telling (List ℕ)
+unfoldable pub kept : Telling (List ℕ)
 kept place text kind = cond (keeps (open_at place) kind) (Some (written_as text kind)) None
 
-no_kept : (place : Place) (text : List ℕ) → kept place text Blank ≡ None
+pub no_kept : (place : Place) (text : List ℕ) → kept place text Blank ≡ None
 unfolding kept keeps
 no_kept place text = refl
 
@@ -101,18 +101,18 @@ kept_by : (b : Bool) (line : Placed) (rest : List Placed) (more : List (List ℕ
 kept_by true line rest more h = ap (λ (xs : List (List ℕ)). written line ∷ xs) h
 kept_by false line rest more h = h
 
-kept_walk : (place : Place) (lines : List Line) → map written (filter is_kept (placed_from place lines)) ≡ walk kept place lines
+pub kept_walk : (place : Place) (lines : List Line) → map written (filter is_kept (placed_from place lines)) ≡ walk kept place lines
 unfolding placed_from placed_at is_kept written walk kept
 kept_walk place [] = refl
 kept_walk place (line ∷ rest) =
     kept_by (keeps (open_at place) (kind_of (trimmed line.text))) (record { number = line.number; text = trimmed line.text; kind = kind_of (trimmed line.text); place = place }) (placed_from (next_place place (kind_of (trimmed line.text))) rest) _
     (kept_walk (next_place place (kind_of (trimmed line.text))) rest)
 
-same_uid : (first second : List Line) → walk uids Before first ≡ walk uids Before second → uid_among (placed first) ≡ uid_among (placed second)
+pub same_uid : (first second : List Line) → walk uids Before first ≡ walk uids Before second → uid_among (placed first) ≡ uid_among (placed second)
 unfolding uid_among placed
 same_uid first second h = ap first_of (uid_walk Before first ∙ (h ∙ sym (uid_walk Before second)))
 
-same_version : (first second : List Line) → walk kept Before first ≡ walk kept Before second → fingerprint (placed first) ≡ fingerprint (placed second)
+pub same_version : (first second : List Line) → walk kept Before first ≡ walk kept Before second → fingerprint (placed first) ≡ fingerprint (placed second)
 unfolding fingerprint normal_form placed
 same_version first second h =
     let same : map written (filter is_kept (placed_from Before first)) ≡ map written (filter is_kept (placed_from Before second)) = kept_walk Before first ∙ (h ∙ sym (kept_walk Before second)) in
@@ -125,7 +125,7 @@ uid_by_marks first second h = same_uid first second (same_marks uids no_uid Befo
 pub version_by_marks : (first second : List Line) → mark_texts (marks_from Before first) ≡ mark_texts (marks_from Before second) → fingerprint (placed first) ≡ fingerprint (placed second)
 version_by_marks first second h = same_version first second (same_marks kept no_kept Before first second h)
 
-written_is : (marks : List Mark) → bytes.written marks ≡ flat_map folded (mark_texts marks)
+pub written_is : (marks : List Mark) → bytes.written marks ≡ flat_map folded (mark_texts marks)
 unfolding bytes.written
 written_is [] = refl
 written_is (mark ∷ rest) = ap (λ (xs : List ℕ). folded mark.text ++ xs) (written_is rest)
@@ -133,7 +133,7 @@ written_is (mark ∷ rest) = ap (λ (xs : List ℕ). folded mark.text ++ xs) (wr
 none_read : line_texts [] ≡ []
 none_read = without_none [] refl ∙ none_behind
 
-all_read : (texts : List (List ℕ)) → AreLines texts → line_texts (flat_map folded texts) ≡ texts
+pub all_read : (texts : List (List ℕ)) → AreLines texts → line_texts (flat_map folded texts) ≡ texts
 all_read [] are = none_read
 all_read (line ∷ rest) are = lines_read line rest are.0 are.1
 

@@ -1,5 +1,5 @@
 -- Joins: the file of items. This project's own.
-use Rattle.std.specs.Prelude.{ℕ, Bool, true, false, not, if◌then◌else◌, nat_lt, List, [], ◌∷◌, ◌++◌, map, length, codes, Result, Ok, Err}
+use Rattle.std.specs.Prelude.{ℕ, ◌+◌, Bool, true, false, not, if◌then◌else◌, nat_lt, List, [], ◌∷◌, ◌++◌, map, length, codes, Result, Ok, Err}
 use Rattle.std.specs.List.{filter, flat_map, list_any}
 use Rattle.std.specs.Str.{bytes_eq}
 use Rattle.item_text.specs.Lines.{logical_lines}
@@ -57,9 +57,17 @@ new_zones before (zone ∷ rest) = if list_any (bytes_eq zone) before then new_z
 unfoldable pub all_zones : List (List ℕ) → List ℕ
 all_zones zones = flat_map (λ zone. zone) (new_zones [] zones)
 
--- the children of a VCALENDAR as they are written
+-- the children of a VCALENDAR
+abbrev pub children_in : List Mark → List (List Mark)
+children_in calendar = parts_of kind.Child (cut level.Component calendar)
+
+-- and as they are written
 unfoldable pub children_of : List Mark → List ℕ
-children_of calendar = all_written (parts_of kind.Child (cut level.Component calendar))
+children_of calendar = all_written (children_in calendar)
+
+-- the bytes that stand round the children of each item of a VCALENDAR as it is split
+abbrev pub frame_of : List (List Mark) → ℕ
+frame_of items = length (first_head (calendars items) ++ all_zones (flat_map zones_of (calendars items))) + length (end_of (calendars items))
 
 -- One VCALENDAR of all that the items have, where there is one: the properties of the first, each time zone once, all children. Then all
 -- other items.

@@ -2,11 +2,11 @@ pub mod Folds
 pub mod Groups
 pub mod Joining
 pub mod Joins
-pub mod Kinds
+pub mod Lengths
 pub mod Marks
 pub mod Opened
 pub mod Parts
-pub mod Seen
+pub mod RoundTrips
 pub mod Spans
 pub mod Splits
 pub mod Unfolds

@@ -1,23 +1,24 @@
 //! The file of items.
 
 ghost use Rattle.std.specs.Prelude.{◌≡◌, ◌⊎◌, ◌≤◌, ◌∷◌, ◌++◌, [], ℕ, List, true, false, not, Ok, Err, Some, IfOk, IfErr, OnOk, if◌then◌else◌, map, length, string_bytes};
-ghost use Rattle.std.specs.Prelude.{codes};
+ghost use Rattle.std.specs.Prelude.{codes, ◌+◌, ◌||◌, nat_lt};
 ghost use Rattle.std.specs.Str.{bytes_eq};
 ghost use Rattle.item_text.specs.Items.{ItemValue, item_of};
-ghost use Rattle.file_text.specs.Joining.{has, AreZones, IsJoining};
+ghost use Rattle.file_text.specs.Joining.{has, AreZones, AreChildren, IsJoining};
 ghost use Rattle.file_text.specs.Joins as spec;
 ghost use Rattle.file_text.specs.Parts as parts;
 ghost use Rattle.file_text.specs.Spans.{parts_at};
 ghost use Rattle.file_text.specs.Splits.{split};
 ghost use Rattle.file_text.specs.Written.{written, folded, all_written};
 
-use crate::lines::{Lines, without_mark};
+use crate::lengths::{Lengths, greater};
 use crate::marks::{Mark, Role, marks_of};
 use crate::parts::{Level, PartKind, Span, cut, head_role, part_at, parts_of};
-use crate::split::{MAX_FILE, split_file};
+use crate::split::MAX_FILE;
 use crate::written::{put_line, put_part, put_parts};
 use bumpalo::Bump;
-use item_text::{Item, ItemError};
+use item_text::lines::{Lines, without_mark};
+use item_text::{Item, ItemError, MAX_ITEM};
 use std::alloc::{AllocError, Global};
 use std::collections::BTreeSet;
 use values::Text;
@@ -34,8 +35,18 @@ struct Joining {
     /// The time zones that are written.
     seen: BTreeSet<Text>,
     children: String,
+    lengths: Lengths,
     /// The items that are no VCALENDAR.
     others: String,
+    /// The most bytes of one of these.
+    longest_other: usize,
+}
+
+/// A file, and whether an item of it as it is split has more than 8 MiB.
+#[derive(Drop)]
+struct Measured {
+    file: String,
+    is_long: bool,
 }
 
 /// Whether a text stands in the set for the first time.
@@ -83,6 +94,37 @@ fn put_zones(
     Ok(())
 }
 
+/// Writes a child and counts it.
+fn put_child(
+    alloc: Global,
+    out: &mut String,
+    lengths: &mut Lengths,
+    child: &[Mark<'_>],
+) -> Result<(), AllocError>
+    ensures { OnOk result ((all : List (List Mark)) → AreChildren (string_bytes out.old) lengths.old all → AreChildren (string_bytes out.new) lengths.new (all ++ child.now ∷ [])) }
+{
+    let before = out.len();
+    put_part(out, child)?;
+    let count = out.len() - before;
+    lengths.add(alloc, child, count)
+}
+
+/// Writes children and counts them.
+fn put_children(
+    alloc: Global,
+    out: &mut String,
+    lengths: &mut Lengths,
+    lines: &[Mark<'_>],
+    spans: &[Span],
+) -> Result<(), AllocError>
+    ensures { OnOk result ((all : List (List Mark)) → AreChildren (string_bytes out.old) lengths.old all → AreChildren (string_bytes out.new) lengths.new (all ++ parts_at lines.now spans.now)) }
+{
+    for span in spans {
+        put_child(alloc, out, lengths, part_at(lines, *span))?;
+    }
+    Ok(())
+}
+
 /// Writes the opening line and the properties of a VCALENDAR of these parts, where none has begun.
 #[tactic(auto, unfolding(crate::specs::Joins::head_of))]
 fn put_head(
@@ -113,7 +155,9 @@ impl Joining {
             zones: String::new(alloc),
             seen: BTreeSet::new(alloc),
             children: String::new(alloc),
+            lengths: Lengths::new(alloc),
             others: String::new(alloc),
+            longest_other: 0,
         }
     }
 
@@ -128,7 +172,13 @@ impl Joining {
         let zones = parts_of(alloc, PartKind::Zone, lines, &spans)?;
         put_zones(alloc, &mut self.zones, &mut self.seen, lines, &zones)?;
         let children = parts_of(alloc, PartKind::Child, lines, &spans)?;
-        put_parts(&mut self.children, lines, &children)?;
+        put_children(
+            alloc,
+            &mut self.children,
+            &mut self.lengths,
+            lines,
+            &children,
+        )?;
         Ok(())
     }
 
@@ -137,7 +187,10 @@ impl Joining {
         requires { spec.is_calendar (parts.head_role lines.now) ≡ false }
         ensures { OnOk result ((items : List (List Mark)) → IsJoining self.old items → IsJoining self.new (items ++ lines.now ∷ [])) }
     {
+        let before = self.others.len();
         put_part(&mut self.others, lines)?;
+        let count = self.others.len() - before;
+        self.longest_other = greater(self.longest_other, count);
         Ok(())
     }
 
@@ -170,8 +223,9 @@ impl Joining {
 
     /// The file.
     #[tactic(auto, unfolding(crate::specs::Joins::joined))]
-    fn finish(self) -> Result<String, AllocError>
-        ensures { IfOk result (λ file. (items : List (List Mark)) → IsJoining self items → string_bytes file ≡ spec.joined items) }
+    fn finish(self) -> Result<Measured, AllocError>
+        ensures file { IfOk result (λ joined. (items : List (List Mark)) → IsJoining self items → string_bytes joined.file ≡ spec.joined items) }
+        ensures long { IfOk result (λ joined. (items : List (List Mark)) → IsJoining self items → joined.is_long ≡ (nat_lt 8_388_608 (spec.frame_of items + self.lengths.longest) || nat_lt 8_388_608 self.longest_other)) }
     {
         let Joining {
             begun,
@@ -179,14 +233,34 @@ impl Joining {
             zones,
             seen: _,
             children,
+            lengths,
             others,
+            longest_other,
         } = self;
         file.push_str(zones.as_str())?;
+        let front = file.len();
         file.push_str(children.as_str())?;
+        let before = file.len();
         put_end(begun, &mut file)?;
+        let frame = front + (file.len() - before);
         file.push_str(others.as_str())?;
-        Ok(file)
+        let is_long = is_any_long(frame, lengths.longest, longest_other);
+        Ok(Measured { file, is_long })
     }
+}
+
+/// Whether two lengths together are more than 8 MiB.
+fn is_over(first: usize, second: usize) -> bool
+    ensures { result ≡ nat_lt 8_388_608 (first + second) }
+{
+    first.saturating_add(second) as u64 > MAX_ITEM
+}
+
+/// Whether the longest children in their frame, or the longest other item, have more than 8 MiB.
+fn is_any_long(frame: usize, longest: usize, other: usize) -> bool
+    ensures { result ≡ (nat_lt 8_388_608 (frame + longest) || nat_lt 8_388_608 other) }
+{
+    is_over(frame, longest) || is_over(0, other)
 }
 
 /// Writes the closing line, where a VCALENDAR has begun.
@@ -200,8 +274,9 @@ fn put_end(begun: bool, file: &mut String) -> Result<(), AllocError>
 }
 
 /// The file of items, of any length.
-fn joined(alloc: Global, items: &[Item]) -> Result<String, ItemError>
-    ensures ok { IfOk result (λ file. string_bytes file ≡ spec.joined (map spec.item_marks (map (λ (item : ItemValue). item.text) items.now))) }
+fn joined(alloc: Global, items: &[Item]) -> Result<Measured, ItemError>
+    ensures ok { IfOk result (λ joined. string_bytes joined.file ≡ spec.joined (map spec.item_marks (map (λ (item : ItemValue). item.text) items.now))) }
+    ensures long { IfOk result (λ joined. length (string_bytes joined.file) ≤ 268_435_456 → joined.is_long ≡ spec.is_too_long (split (string_bytes joined.file))) }
     ensures err { IfErr result (λ e. e ≡ ItemError.NoMemory) }
 {
     let mut joining = Joining::new(alloc);
@@ -211,21 +286,8 @@ fn joined(alloc: Global, items: &[Item]) -> Result<String, ItemError>
         };
     }
     match joining.finish() {
-        Ok(file) => Ok(file),
+        Ok(joined) => Ok(joined),
         Err(_) => Err(ItemError::NoMemory),
-    }
-}
-
-/// Whether an item of a file as it is split has more than 8 MiB.
-fn is_too_long(alloc: Global, file: &[u8]) -> Result<bool, ItemError>
-    ensures ok { IfOk result (λ long. long ≡ spec.is_too_long (split file.now)) }
-    ensures err { IfErr result (λ e. e ≡ ItemError.NoMemory) }
-{
-    match split_file(alloc, file) {
-        Ok(_) => Ok(false),
-        Err(ItemError::NoMemory) => Err(ItemError::NoMemory),
-        Err(ItemError::TooLong) => Ok(true),
-        Err(_) => Ok(false),
     }
 }
 
@@ -241,16 +303,15 @@ pub fn join_file(alloc: Global, items: &[Item]) -> Result<Vec<u8>, ItemError>
     ensures ok { IfOk result (λ file. spec.join (map (λ (item : ItemValue). item.text) items.now) ≡ Ok file.items) }
     ensures err { IfErr result (λ e. (e ≡ ItemError.NoMemory) ⊎ ((e ≡ ItemError.TooLong) × (spec.join (map (λ (item : ItemValue). item.text) items.now) ≡ Err ItemError.TooLong))) }
 {
-    let file = match joined(alloc, items) {
-        Ok(file) => file,
+    let Measured { file, is_long } = match joined(alloc, items) {
+        Ok(joined) => joined,
         Err(error) => return Err(error),
     };
     if file.len() as u64 > MAX_FILE {
         return Err(ItemError::TooLong);
     }
-    match is_too_long(alloc, file.as_bytes()) {
-        Ok(true) => Err(ItemError::TooLong),
-        Ok(false) => Ok(file.into_bytes()),
-        Err(error) => Err(error),
+    if is_long {
+        return Err(ItemError::TooLong);
     }
+    Ok(file.into_bytes())
 }

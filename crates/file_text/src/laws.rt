@@ -1,15 +1,16 @@
-//! What a line is that is written folded: one text, short, and read again the line.
+//! What a line is that is written folded: one text, short, and read again the line. What a joined file is split into.
 
-ghost use Rattle.std.specs.Prelude.{◌≡◌, ◌≤◌, ◌++◌, ℕ, false, List, [], ◌∷◌, length, Some, None};
-ghost use Rattle.std.specs.List.{All, flat_map};
-ghost use Rattle.std.specs.Str.{IsUtf8};
+ghost use Rattle.std.specs.Prelude.{◌≡◌, ◌≤◌, ◌++◌, ℕ, false, List, [], ◌∷◌, length, map, Some, None, Ok};
+ghost use Rattle.std.specs.List.{All, IsDistinct, flat_map};
+ghost use Rattle.std.specs.Str.{IsUtf8, bytes_eq};
 ghost use Rattle.std.specs.Str.Lines.{lines};
 ghost use Rattle.item_text.specs.Components.{Before, placed};
 ghost use Rattle.item_text.specs.Items.{ItemValue, item_of, uid_among, fingerprint};
 ghost use Rattle.item_text.specs.Lines.{Line, continues, logical_lines};
 ghost use Rattle.file_text.specs.Folds.{IsFolded};
 ghost use Rattle.file_text.specs.Unfolds.{line_texts, texts_behind, HasNoFeed, HasNoMark, IsLine, AreLines};
-ghost use Rattle.file_text.specs.Joins.{item_marks};
+ghost use Rattle.file_text.specs.Joins.{item_marks, join};
+ghost use Rattle.file_text.specs.RoundTrips.{AreItems, in_file_order, idents, SplitsLike};
 ghost use Rattle.file_text.specs.Marks.{refusal_from, marks_from, mark_texts};
 ghost use Rattle.file_text.specs.Written.{folded, written};
 
@@ -56,4 +57,10 @@ pub fn marks_tell_the_item()
 pub fn written_lines_tell_the_item()
     ensures uid { (text : List ℕ) → AreLines (mark_texts (item_marks text)) → uid_among (placed (logical_lines (written (item_marks text)))) ≡ uid_among (placed (logical_lines text)) }
     ensures version { (text : List ℕ) → AreLines (mark_texts (item_marks text)) → fingerprint (placed (logical_lines (written (item_marks text)))) ≡ fingerprint (placed (logical_lines text)) }
+{}
+
+/// A joined file is split into items of the same idents and versions, where the idents differ: those that are a VCALENDAR in order, and
+/// then all others in order.
+pub fn joined_files_are_split_again()
+    ensures { (items : List ItemValue) (file : List ℕ) → AreItems items → IsDistinct bytes_eq (idents items) → join (map (λ (item : ItemValue). item.text) items) ≡ Ok file → SplitsLike file (in_file_order items) }
 {}

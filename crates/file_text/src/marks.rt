@@ -2,17 +2,18 @@
 
 ghost use Rattle.std.specs.Prelude.{◌≡◌, ◌<◌, ◌^◌, ◌∷◌, ◌++◌, ◌⊎◌, ℕ, List, None, Some, OnOk, IfOk, IfErr};
 ghost use Rattle.item_text.specs.Lines as spec;
+ghost use Rattle.item_text.specs.Places.{IsCounted};
 ghost use Rattle.item_text.specs.Components.{Place, Before};
-ghost use Rattle.file_text.specs.Kinds.{kind_seen};
+ghost use Rattle.item_text.specs.Kinds.{kind_seen};
 ghost use Rattle.file_text.specs.Marks as file;
 ghost use Rattle.file_text.specs.Opened.{place_seen, found_from};
-ghost use Rattle.file_text.specs.Seen.{line_seen, left_behind, count_of, size_of};
+ghost use Rattle.item_text.specs.Seen.{line_seen, left_behind, count_of, size_of};
 
-use crate::lines::{Line, Lines};
-use crate::stack::Stack;
-use crate::words::{LineKind, kind_of, trimmed};
+use crate::opened::Opened;
 use bumpalo::Bump;
 use item_text::ItemError;
+use item_text::lines::{Line, Lines};
+use item_text::words::{LineKind, kind_of, trimmed};
 use std::alloc::{AllocError, Global};
 use values::Lent;
 
@@ -47,7 +48,7 @@ pub(crate) struct Mark<'a> {
 /// What the lines so far gave.
 #[derive(Drop)]
 struct Marking<'a> {
-    stack: Stack<'a>,
+    opened: Opened<'a>,
     marks: Vec<Mark<'a>>,
 }
 
@@ -81,22 +82,24 @@ fn put<'a>(
 
 impl<'a> Marking<'a> {
     /// Goes over a line.
-    fn go(&mut self, line: Line<'a>) -> Result<(), ItemError>
+    fn go(&mut self, alloc: Global, line: Line<'a>) -> Result<(), ItemError>
+        requires { IsCounted self.old.opened.stack }
+        ensures counted { OnOk result (IsCounted self.new.opened.stack) }
         ensures goes { OnOk result ((count : ℕ) (rest : List spec.Line) → found_from self.new count rest ≡ found_from self.old count (line_seen line.entry ∷ rest)) }
         ensures err { IfErr result (λ e. (e ≡ ItemError.NoMemory) ⊎ ((count : ℕ) (rest : List spec.Line) → (found_from self.old count (line_seen line.entry ∷ rest)).refusal ≡ Some e)) }
     {
         let Line { number, text } = line;
         let text = trimmed(text);
         let kind = kind_of(text);
-        let uid = self.stack.uid(kind);
-        if let Some(error) = self.stack.fault(number, kind, uid) {
+        let uid = self.opened.uid(kind);
+        if let Some(error) = self.opened.fault(number, kind, uid) {
             return Err(error);
         }
-        let role = self.stack.role(kind, uid.is_some());
+        let role = self.opened.role(kind, uid.is_some());
         let Ok(()) = put(&mut self.marks, text, kind, role) else {
             return Err(ItemError::NoMemory);
         };
-        let Ok(()) = self.stack.go(kind) else {
+        let Ok(()) = self.opened.go(alloc, kind) else {
             return Err(ItemError::NoMemory);
         };
         Ok(())
@@ -114,7 +117,7 @@ pub(crate) fn marks_of<'a>(
     ensures err { IfErr result (λ e. (e ≡ ItemError.NoMemory) ⊎ (file.refusal_from (count_of lines.entry) Before (left_behind None lines.entry) ≡ Some e)) }
 {
     let mut marking = Marking {
-        stack: Stack::new(alloc),
+        opened: Opened::new(alloc),
         marks: Vec::new(alloc),
     };
     loop {
@@ -124,12 +127,12 @@ pub(crate) fn marks_of<'a>(
         let Some(line) = next else {
             break;
         };
-        if let Err(error) = marking.go(line) {
+        if let Err(error) = marking.go(alloc, line) {
             return Err(error);
         }
     }
-    let Marking { stack, marks } = marking;
-    match stack.end_fault(lines.count()) {
+    let Marking { opened, marks } = marking;
+    match opened.end_fault(lines.count()) {
         Some(error) => Err(error),
         None => Ok(marks),
     }

@@ -6,7 +6,7 @@ ghost use Rattle.file_text.specs.Parts as spec;
 ghost use Rattle.file_text.specs.Spans.{part_at, parts_at};
 
 use crate::marks::{Mark, Role};
-use crate::words::value_of;
+use item_text::words::value_of;
 use std::alloc::{AllocError, Global};
 
 /// What is cut into parts.

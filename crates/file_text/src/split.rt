@@ -10,11 +10,11 @@ ghost use Rattle.file_text.specs.Splits as spec;
 ghost use Rattle.file_text.specs.Written.{written};
 
 use crate::children::{by_uid, next_group};
-use crate::lines::{Lines, without_mark};
 use crate::marks::{Mark, Role, marks_of};
 use crate::parts::{Level, PartKind, Span, cut, head_role, part_at, parts_of};
 use crate::written::{put_line, put_part, put_parts};
 use bumpalo::Bump;
+use item_text::lines::{Lines, without_mark};
 use item_text::{Item, ItemError};
 use std::alloc::{AllocError, Global};
 

@@ -1,13 +1,13 @@
 -- Neighbours: the changes of a text's lines are those that their neighbours tell.
-use Rattle.std.proofs.Common.{◌≡◌, inr, ℕ, suc, ◌≤◌, ◌<◌, ◌==◌, Bool, true, false, cond, not, ◌&&◌, ◌||◌, List, [], ◌∷◌, ◌++◌, map, length, drop, nat_eq, Option, Some, None, is_some, refl, sym, ◌∙◌, ap, subst, arith, append_assoc}
+use Rattle.std.proofs.Common.{◌≡◌, inr, ℕ, suc, ◌≤◌, ◌<◌, ◌==◌, Bool, true, false, cond, not, ◌&&◌, ◌||◌, List, [], ◌∷◌, ◌++◌, map, length, drop, nat_eq, Some, is_some, refl, sym, ◌∙◌, ap, subst, arith, append_assoc}
 use Rattle.std.specs.Prelude.{find, flat_map}
 use Rattle.std.specs.Option.{option_map, unwrap_or}
-use Rattle.std.specs.List.{slice_split, join_with_byte, onto_first, starts_with}
+use Rattle.std.specs.List.{join_with_byte, onto_first, starts_with}
 use Rattle.std.specs.Str.Lines.{lines_of_parts, strip_carriage_return, lines}
 use Rattle.std.proofs.lemmas.List.{length-map}
 use Rattle.std.proofs.lemmas.List.Splits.{join_with_byte-slice_split}
 use Rattle.item_text.specs.Lines.{Line, continues, lines_from, unfolded, without_mark, physical_lines, logical_lines}
-use Rattle.item_text.specs.Components.{Placed, Before, placed, placed_from, uid_of}
+use Rattle.item_text.specs.Components.{Placed, Before, placed}
 use Rattle.item_text.specs.declared.edit.Change.{Change}
 use Rattle.item_text.specs.declared.edit.Change.TheVariants.{Stays, Replaced, Followed}
 use Rattle.item_text.specs.declared.edit.Role.{Role}

@@ -5,12 +5,12 @@ mod children;
 mod edit;
 mod fp;
 mod item;
-mod lines;
+pub mod lines;
 mod normal;
 mod plain;
-mod stack;
+pub mod stack;
 mod walk;
-mod words;
+pub mod words;
 
 pub use fp::{Fp, fp_hex, fp_of_hex};
 pub use item::{Item, ItemError, MAX_ITEM};

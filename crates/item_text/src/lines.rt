@@ -1,4 +1,4 @@
-//! The logical lines of a text, one after another.
+//! The logical lines of a text, one after another (RFC 5545, section 3.1, RFC 6350, section 3.2).
 
 ghost use Rattle.std.specs.Prelude.{◌≡◌, ◌==◌, ◌<◌, ◌≤◌, ◌^◌, IfOk, [], ◌∷◌, ◌++◌, true, None, Some, drop, length};
 ghost use Rattle.std.specs.List.{position_or_len, before_first, after_first};
@@ -12,20 +12,22 @@ use std::alloc::{AllocError, Global};
 
 /// A logical line, with the number of its first physical line.
 #[derive(Clone, Copy)]
-pub(crate) struct Line<'a> {
-    pub(crate) number: u32,
-    pub(crate) text: &'a str,
+pub struct Line<'a> {
+    /// Counted from 1.
+    pub number: u32,
+    /// What its physical lines have, without their ends and without the character that begins each behind the first.
+    pub text: &'a str,
 }
 
 /// What is left of a text, and how many physical lines stand before it.
 #[derive(Clone, Copy)]
-pub(crate) struct Lines<'a> {
+pub struct Lines<'a> {
     rest: &'a str,
     passed: u32,
 }
 
-/// A text without the byte order mark at its front.
-pub(crate) fn without_mark(text: &str) -> &str
+/// A text without the byte order mark at its front, if it has one.
+pub fn without_mark(text: &str) -> &str
     ensures { result.now ≡ spec.without_mark text.now }
 {
     if text.starts_with("\u{feff}") {
@@ -87,8 +89,8 @@ fn behind_blank(line: &str) -> &str
 }
 
 impl<'a> Lines<'a> {
-    /// The lines of a text without a byte order mark.
-    pub(crate) fn of(text: &'a str) -> Lines<'a>
+    /// The lines of a text from which a byte order mark is taken away; one that still stands at its front is a part of its first line.
+    pub fn of(text: &'a str) -> Lines<'a>
         ensures left { left_behind None result ≡ spec.unfolded (lines text.now) }
         ensures count { count_of result ≡ length (lines text.now) }
         ensures size { size_of result ≡ length text.now }
@@ -100,7 +102,7 @@ impl<'a> Lines<'a> {
     }
 
     /// How many physical lines the text has, where no line is left.
-    pub(crate) fn count(&self) -> u32
+    pub fn count(&self) -> u32
         ensures { left_behind None self.now ≡ [] → result ≡ count_of self.now }
     {
         self.passed
@@ -168,12 +170,9 @@ impl<'a> Lines<'a> {
         })
     }
 
-    /// The next logical line. The text of a folded one stands in the arena.
-    pub(crate) fn next(
-        &mut self,
-        alloc: Global,
-        bump: &'a Bump,
-    ) -> Result<Option<Line<'a>>, AllocError>
+    /// The next logical line, or `None` behind the last. Its text is lent from the text that is read; that of a folded one stands in the
+    /// arena. An error where memory runs out; then some of the line may be passed over.
+    pub fn next(&mut self, alloc: Global, bump: &'a Bump) -> Result<Option<Line<'a>>, AllocError>
         requires { size_of self.old < 2 ^ 32 }
         ensures line { IfOk result (λ next. MatchOption next (left_behind None self.old ≡ []) (λ line. left_behind None self.old ≡ line_seen line ∷ left_behind None self.new)) }
         ensures shorter { IfOk result (λ next. MatchOption next (self.new ≡ self.old) (λ line. length self.new.rest.now < length self.old.rest.now)) }

@@ -21,7 +21,7 @@ const MAX_UID: usize = 500;
 
 /// The open components: their names, the innermost last, and how many of them are VTIMEZONE.
 #[derive(Drop)]
-pub(crate) struct Stack<'a> {
+pub struct Stack<'a> {
     /// Whether the component of the text has begun.
     begun: bool,
     names: Vec<&'a str>,
@@ -30,8 +30,10 @@ pub(crate) struct Stack<'a> {
 
 /// How deep a line stands, with the names that tell what may stand there.
 #[derive(Clone, Copy)]
-enum Depth<'a> {
+pub enum Depth<'a> {
+    /// In no component.
     Empty,
+    /// In a top component alone.
     One(&'a str),
     /// In a child, the second, of a top component, the first.
     Two(&'a str, &'a str),
@@ -39,13 +41,15 @@ enum Depth<'a> {
     Deep(&'a str),
 }
 
-fn is_calendar(name: &str) -> bool
+/// Whether this is the name of a VCALENDAR, in any case of letters.
+pub fn is_calendar(name: &str) -> bool
     ensures { result ≡ spec.is_calendar (upper name.now) }
 {
     is_word(name, "VCALENDAR")
 }
 
-fn is_timezone(name: &str) -> bool
+/// Whether this is the name of a VTIMEZONE, in any case of letters.
+pub fn is_timezone(name: &str) -> bool
     ensures { result ≡ is_timezone (upper name.now) }
 {
     is_word(name, "VTIMEZONE")
@@ -130,8 +134,9 @@ fn fault_within(
 }
 
 impl<'a> Stack<'a> {
+    /// None is open yet.
     #[tactic(auto, unfolding(crate::specs::Places::place_at))]
-    pub(crate) fn new(alloc: Global) -> Stack<'a>
+    pub fn new(alloc: Global) -> Stack<'a>
         ensures place { place_seen result ≡ spec.Before }
         ensures counted { IsCounted result }
     {
@@ -142,7 +147,8 @@ impl<'a> Stack<'a> {
         }
     }
 
-    fn depth(&self) -> Depth<'a>
+    /// How deep the next line stands.
+    pub fn depth(&self) -> Depth<'a>
         ensures { IsDepth result (names_of self.now) }
     {
         match self.names.as_slice() {
@@ -154,12 +160,7 @@ impl<'a> Stack<'a> {
     }
 
     /// The fault of a line of this kind here, if it has one, by the UID that the line gives.
-    pub(crate) fn fault(
-        &self,
-        number: u32,
-        kind: LineKind<'_>,
-        uid: Option<&str>,
-    ) -> Option<ItemError>
+    pub fn fault(&self, number: u32, kind: LineKind<'_>, uid: Option<&str>) -> Option<ItemError>
         requires { option_map (λ x. x.now) uid ≡ spec.uid_at (place_seen self.now) (kind_seen kind) }
         ensures { result ≡ refused.fault_at number (place_seen self.now) (kind_seen kind.entry) }
     {
@@ -173,7 +174,7 @@ impl<'a> Stack<'a> {
 
     /// The refusal where the text, of this many physical lines, ends here.
     #[tactic(auto, unfolding(crate::specs::Refusals::fault_of_end, crate::specs::Refusals::first_of, crate::specs::Places::place_at))]
-    pub(crate) fn end_fault(&self, count: u32) -> Option<ItemError>
+    pub fn end_fault(&self, count: u32) -> Option<ItemError>
         ensures { result ≡ refused.first_of (refused.fault_of_end count (place_seen self.now)) }
     {
         match self.depth() {
@@ -231,7 +232,7 @@ impl<'a> Stack<'a> {
 
     /// The UID that a line of this kind gives here, if it gives one.
     #[tactic(auto, unfolding(crate::specs::Components::uid_at))]
-    pub(crate) fn uid(&self, kind: LineKind<'a>) -> Option<&'a str>
+    pub fn uid(&self, kind: LineKind<'a>) -> Option<&'a str>
         ensures { option_map (λ x. x.now) result ≡ spec.uid_at (place_seen self.now) (kind_seen kind.entry) }
     {
         match kind {
@@ -364,8 +365,8 @@ impl<'a> Stack<'a> {
         }
     }
 
-    /// Goes over a line of this kind, which has no fault here.
-    pub(crate) fn go(&mut self, kind: LineKind<'a>) -> Result<(), AllocError>
+    /// Goes over a line of this kind, which has no fault here. An error where memory runs out.
+    pub fn go(&mut self, kind: LineKind<'a>) -> Result<(), AllocError>
         requires counted { IsCounted self.old }
         requires fits { (number : ℕ) × (refused.fault_at number (place_seen self.old) (kind_seen kind) ≡ None) }
         ensures counted { OnOk result (IsCounted self.new) }

@@ -8,15 +8,16 @@ ghost use Rattle.item_text.specs.Lines as spec;
 ghost use Rattle.item_text.specs.Components.{upper, is_colon, is_semicolon, has_colon, name_of, value_of, behind_colon, quoted_behind, kind_of};
 ghost use Rattle.item_text.specs.Kinds.{kind_seen};
 
-/// What a trimmed line is.
+/// What a trimmed line is. Names are as the line has them, trimmed, in any case of letters.
 #[derive(Clone, Copy)]
-pub(crate) enum LineKind<'a> {
+pub enum LineKind<'a> {
     /// It opens a component of this name.
     Opens(&'a str),
     /// It closes a component of this name.
     Closes(&'a str),
     /// It is a property: its name, and the line.
     Property(&'a str, &'a str),
+    /// It is empty.
     Blank,
 }
 
@@ -74,7 +75,7 @@ fn trim_back(text: &str) -> &str
 
 /// A text without spaces and tabs at both ends.
 #[tactic(auto, unfolding(crate::specs::Lines::trimmed))]
-pub(crate) fn trimmed(text: &str) -> &str
+pub fn trimmed(text: &str) -> &str
     ensures { result.now ≡ spec.trimmed text.now }
 {
     trim_back(trim_front(text))
@@ -140,9 +141,10 @@ fn behind_colon(line: &str) -> &str
     ""
 }
 
-/// The value of a property.
+/// The value of a property: what stands behind the first colon of its line that is in no double quotes, trimmed, or nothing (RFC 5545,
+/// section 3.1).
 #[tactic(auto, unfolding(crate::specs::Components::value_of))]
-pub(crate) fn value_of(line: &str) -> &str
+pub fn value_of(line: &str) -> &str
     ensures { result.now ≡ value_of line.now }
 {
     trimmed(behind_colon(line))
@@ -167,8 +169,8 @@ fn ends(head: &str) -> bool
     is_word(head, "END")
 }
 
-/// What a trimmed line is.
-pub(crate) fn kind_of(line: &str) -> LineKind<'_>
+/// What a trimmed line is: `BEGIN:` and `END:` count in any case of letters (RFC 5545, section 3.6).
+pub fn kind_of(line: &str) -> LineKind<'_>
     ensures { kind_seen result ≡ kind_of line.now }
 {
     if line.is_empty() {

@@ -7,7 +7,7 @@ use Rattle.item_text.proofs.Readings.{body_short, body_lines}
 use Rattle.file_text.specs.Joining.{IsJoining}
 use Rattle.file_text.specs.Joins.{item_marks}
 use Rattle.file_text.specs.Marks.{marks_from, refusal_from}
-use Rattle.file_text.specs.Seen.{count_of}
+use Rattle.item_text.specs.Seen.{count_of}
 use Rattle.file_text.proofs.ItemFiles.{item_fine}
 use Rattle.file_text.specs.declared.marks.Mark.{Mark}
 use Rattle.file_text.proofs.join.Joining.add_text.Goals as goal
