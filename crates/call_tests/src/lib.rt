@@ -17,7 +17,7 @@ mod multistatus_replies;
 #[cfg(test)]
 mod names;
 #[cfg(test)]
-mod outfits;
+mod places;
 #[cfg(test)]
 mod real_folder;
 #[cfg(test)]

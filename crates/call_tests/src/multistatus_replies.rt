@@ -334,8 +334,8 @@ fn shown_row(alloc: Global, row: &Response<'_>) -> Result<String, AllocError> {
         let more = format!(in alloc; "{code} ")?;
         text.push_str(more.as_str())?;
     }
-    for prop in row.props.as_slice() {
-        let more = shown_prop(alloc, prop)?;
+    for prop in row.props.iter() {
+        let more = shown_prop(alloc, &prop)?;
         text.push_str(more.as_str())?;
     }
     Ok(text)

@@ -7,8 +7,9 @@ ghost use Rattle.outside.specs.Planned.{course_of};
 ghost use Rattle.outside.specs.declared.plan.Fate.TheVariants.{Acts};
 ghost use Rattle.children.specs.Children.{is_new, no_run_left, no_edit_left};
 ghost use Rattle.children.specs.ChildCalls.{SpawnCause, RunAnswer, EditAnswer, longest};
-ghost use Rattle.children.specs.Plays.{state_of};
+ghost use Rattle.children.specs.Plays.{state_of, start_of, BeginsAlike};
 
+use crate::copies::{copy_edits, copy_plan, copy_runs};
 use crate::limits::{edited_within, ended_within};
 use crate::play::Play;
 use crate::spawner::{ChildEvent, Edited, Ended, SpawnError, Spawner};
@@ -36,11 +37,25 @@ impl MemChild {
         ensures tells { IfOk result (λ m. ⟦<MemChild as Spawner>⟧.tells m × (⟦<MemChild as Spawner>⟧.state m ≡ is_new runs.items edits.items)) }
         ensures count { IfOk result (λ m. ⟦<MemChild as Spawner>⟧.count m ≡ 0) }
         ensures course { IfOk result (λ m. ⟦<MemChild as Spawner>⟧.course m ≡ Some (begun plan)) }
+        ensures start { IfOk result (λ m. start_of m ≡ is_new runs.items edits.items) }
     {
         Ok(MemChild {
             play: Play::new(alloc, runs, edits),
             planned: Planned::new(plan),
         })
+    }
+
+    /// Programs and editors that end as those of this one do, from the first of them, by a plan of which the same
+    /// calls fail.
+    pub fn afresh(&self, alloc: Global) -> Result<MemChild, NoMemory>
+        ensures state { IfOk result (λ m. ⟦<MemChild as Spawner>⟧.state m ≡ start_of self.now) }
+        ensures count { IfOk result (λ m. ⟦<MemChild as Spawner>⟧.count m ≡ 0) }
+        ensures course { IfOk result (λ m. BeginsAlike (⟦<MemChild as Spawner>⟧.course self.now) (⟦<MemChild as Spawner>⟧.course m)) }
+    {
+        let runs = copy_runs(alloc, self.play.runs.as_slice())?;
+        let edits = copy_edits(alloc, self.play.edits.as_slice())?;
+        let plan = copy_plan(alloc, &self.planned.plan)?;
+        MemChild::new(alloc, runs, edits, plan)
     }
 
     /// The programs that were run, the first of them first. Takes no memory.

@@ -24,7 +24,8 @@ pub struct Play {
 
 impl Play {
     pub fn new(alloc: Global, runs: Vec<Ended>, edits: Vec<Edited>) -> Play
-        ensures { state_of result ≡ is_new runs.items edits.items }
+        ensures state { state_of result ≡ is_new runs.items edits.items }
+        ensures start { (result.runs.items ≡ runs.items) × (result.edits.items ≡ edits.items) }
     {
         Play {
             alloc,

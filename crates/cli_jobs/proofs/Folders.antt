@@ -8,7 +8,6 @@ use Rattle.config_model.specs.declared.config.StorageConf.{StorageConf}
 use Rattle.config_settle.specs.declared.settled.Settled.{Settled}
 use Rattle.config_settle.specs.declared.settled.Settled.TheVariants.{Vdir, Single, Dav}
 use Rattle.config_settle.specs.Texts.{are_texts, is_ending}
-use Rattle.config_model.specs.Reading.{config_of}
 use Rattle.config_settle.specs.Settling.{settled_of, status_of}
 use Rattle.cli_jobs.specs.declared.job.SyncJob.{SyncJob}
 use Rattle.cli_jobs.specs.declared.job.Vdir.{Vdir as Folder}
@@ -24,7 +23,7 @@ use Rattle.sync_plan.specs.declared.rules.ConflictRule.TheVariants.{Null, AWins,
 use Rattle.std.specs.Prelude.{codes}
 use Rattle.std.specs.List.{AllByRecursion, cons_option}
 use Rattle.std.specs.Option.{option_or}
-use Rattle.cli_jobs.specs.Jobs.{storage_at, settled_texts, folder_by, folder_in, job_over, built_job, pair_job, job_if, jobs_over, chosen_jobs, jobs_of}
+use Rattle.cli_jobs.specs.Jobs.{storage_at, settled_texts, folder_by, folder_in, job_over, built_job, pair_job, job_if, jobs_over, chosen_jobs}
 use Rattle.cli_jobs.proofs.Settled.{IsFolderEnding, settled_ok}
 
 bind_ok : {A B : Type 0} (x : Result A Refusal) (f : A → Result B Refusal) (b : B) → (x >>= f) ≡ Ok b → (a : A) × (x ≡ Ok a) × (f a ≡ Ok b)
@@ -146,14 +145,8 @@ jobs_over_ok names home storages status (pair ∷ pairs) jobs e =
     let one : cons_option first.0 rest.0 ≡ jobs = cc in
     subst (λ (js : List SyncJob). AllByRecursion IsRunnable js) one (more_runnable names home storages status pair first.0 rest.0 first.1 (jobs_over_ok names home storages status pairs rest.0 rest.1))
 
-chosen_jobs_ok : (names : List Name) (home : Option (List ℕ)) (config : Config) (jobs : List SyncJob) → chosen_jobs names home config ≡ Ok jobs → AllByRecursion IsRunnable jobs
+pub chosen_jobs_ok : (names : List Name) (home : Option (List ℕ)) (config : Config) (jobs : List SyncJob) → chosen_jobs names home config ≡ Ok jobs → AllByRecursion IsRunnable jobs
 unfolding chosen_jobs
 chosen_jobs_ok names home config jobs e =
     let status = bind_ok (lifted (status_of config.status_path home)) (λ status. unless_found (first_unknown config.pairs names) (jobs_over names home config.storages status config.pairs)) jobs e in
     jobs_over_ok names home config.storages status.0 config.pairs jobs (unless_ok (first_unknown config.pairs names) (jobs_over names home config.storages status.0 config.pairs) jobs status.2)
-
-pub are_runnable : (names : List Name) (home : Option (List ℕ)) (bytes : List ℕ) (jobs : List SyncJob) → jobs_of names home bytes ≡ Ok jobs → AllByRecursion IsRunnable jobs
-unfolding jobs_of
-are_runnable names home bytes jobs e =
-    let config = bind_ok (lifted (config_of bytes)) (λ config. chosen_jobs names home config) jobs e in
-    chosen_jobs_ok names home config.0 jobs config.2

@@ -4,7 +4,6 @@ use Rattle.std.specs.List.{find, cons_option}
 use Rattle.std.specs.Str.{bytes_eq}
 use Rattle.cli_words.specs.declared.words.Name.{Name}
 use Rattle.config_ini.specs.declared.error.ConfigError.TheVariants.{NoStorage}
-use Rattle.config_model.specs.Reading.{config_of}
 use Rattle.config_model.specs.declared.config.Config.{Config}
 use Rattle.config_model.specs.declared.config.PairConf.{PairConf}
 use Rattle.config_model.specs.declared.config.StorageConf.{StorageConf}
@@ -80,7 +79,3 @@ chosen_jobs names home config =
     lifted (status_of config.status_path home) >>= λ status.
     unless_found (first_unknown config.pairs names)
     (jobs_over names home config.storages status config.pairs)
-
--- the jobs that the bytes of a configuration come to; none where no pair is chosen
-unfoldable pub jobs_of : List Name → Option (List ℕ) → List ℕ → Result (List SyncJob) Refusal
-jobs_of names home bytes = lifted (config_of bytes) >>= λ config. chosen_jobs names home config

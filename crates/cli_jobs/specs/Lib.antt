@@ -4,3 +4,4 @@ pub mod Built
 pub mod Rules
 pub mod Jobs
 pub mod Texts
+pub mod Unfetched

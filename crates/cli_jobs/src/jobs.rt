@@ -26,7 +26,8 @@ use config_settle::{Settled, normalised, settle, settle_status};
 use std::alloc::{AllocError, Global};
 use values::{Sequence, Text};
 
-fn read(alloc: Global, bytes: &[u8]) -> Result<Config, Refusal>
+/// The configuration that the bytes of its file are.
+pub fn config_of(alloc: Global, bytes: &[u8]) -> Result<Config, Refusal>
     ensures { Comes (lifted (config_of bytes.now)) result }
 {
     match read_config(alloc, bytes) {
@@ -35,7 +36,7 @@ fn read(alloc: Global, bytes: &[u8]) -> Result<Config, Refusal>
     }
 }
 
-fn status_of(alloc: Global, path: &str, home: Option<&str>) -> Result<Text, Refusal>
+pub(crate) fn status_of(alloc: Global, path: &str, home: Option<&str>) -> Result<Text, Refusal>
     ensures { Comes (lifted (status_of path.now (option_copied home.entry))) result }
 {
     match settle_status(alloc, path, home) {
@@ -56,7 +57,7 @@ fn settled(alloc: Global, storage: &StorageConf, home: Option<&str>) -> Result<S
 
 /// What a storage's texts come to, where none of them is left to fetch.
 #[tactic(auto, unfolding(crate::specs::Jobs::settled_texts))]
-fn settled_texts(
+pub(crate) fn settled_texts(
     alloc: Global,
     home: Option<&str>,
     storage: &StorageConf,
@@ -184,7 +185,7 @@ fn no_storage(alloc: Global, pair: &Text, name: &Text) -> Result<Refusal, AllocE
 
 /// The storage of this name.
 #[tactic(auto, unfolding(crate::specs::Jobs::storage_at))]
-fn storage_at<'a>(
+pub(crate) fn storage_at<'a>(
     alloc: Global,
     storages: &'a [StorageConf],
     pair: &Text,
@@ -271,8 +272,11 @@ fn jobs_over(
     Ok(jobs)
 }
 
+/// The jobs that a configuration comes to, for the pairs that the names choose, in the order of the configuration; none
+/// where no pair is chosen. Refused in this order: the status path, a name that names nothing; then pair by pair what
+/// isn't built of the pair, what the texts of its storages are refused for, and what isn't built of these.
 #[tactic(auto, unfolding(crate::specs::Jobs::chosen_jobs))]
-fn chosen_jobs(
+pub fn chosen_jobs(
     alloc: Global,
     names: &[Name],
     home: Option<&str>,
@@ -291,23 +295,4 @@ fn chosen_jobs(
         status.as_str(),
         pairs,
     )
-}
-
-/// The jobs that the bytes of a configuration come to, for the pairs that the names choose, in the order of the
-/// configuration; none where no pair is chosen. Refused in this order: what the configuration is refused for, its status
-/// path, a name that names nothing; then pair by pair what isn't built of the pair, what the texts of its storages are
-/// refused for, and what isn't built of these.
-#[tactic(auto, unfolding(crate::specs::Jobs::jobs_of))]
-pub fn jobs_of(
-    alloc: Global,
-    names: &[Name],
-    home: Option<&str>,
-    bytes: &[u8],
-) -> Result<Sequence<SyncJob>, Refusal>
-    ensures { Comes (spec.jobs_of names.now (option_copied home.entry) bytes.now) result }
-{
-    match read(alloc, bytes) {
-        Ok(config) => chosen_jobs(alloc, names, home, &config),
-        Err(refusal) => Err(refusal),
-    }
 }

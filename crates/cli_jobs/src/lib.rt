@@ -9,8 +9,10 @@ mod refusal;
 mod refused;
 mod rules;
 mod texts;
+mod unfetched;
 
 pub use job::SyncJob;
-pub use jobs::jobs_of;
+pub use jobs::{chosen_jobs, config_of};
 pub use refusal::Refusal;
 pub use texts::refusal_text;
+pub use unfetched::{check_unfetched, has_fetches, is_to_fetch};

@@ -3,6 +3,7 @@
 ghost use Rattle.std.specs.Prelude.{◌≡◌};
 ghost use Rattle.cli_jobs.specs.declared.refusal.Refusal.TheVariants.{NoMemory};
 
+use child_cmd::FetchError;
 use config_ini::ConfigError;
 use std::alloc::{AllocError, AllocFailed};
 use thiserror::Error;
@@ -19,10 +20,23 @@ pub enum Refusal {
     NoPair(Text),
     /// The pair has no collections.
     #[error("no such collection")]
-    NoCollection { name: Text, pair: Text },
+    NoCollection {
+        name: Text,
+        pair: Text,
+    },
     /// What the key of the section says isn't built yet.
     #[error("not built")]
-    NotBuilt { section: Text, key: Text },
+    NotBuilt {
+        section: Text,
+        key: Text,
+    },
+    /// The text of the key of the section can't be fetched.
+    #[error("not fetched")]
+    NotFetched {
+        section: Text,
+        key: Text,
+        error: FetchError,
+    },
     #[error("out of memory")]
     NoMemory,
 }

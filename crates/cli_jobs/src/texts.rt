@@ -6,7 +6,7 @@ ghost use Rattle.cli_text.specs.Configs.{config_line, of_key};
 ghost use Rattle.cli_jobs.specs.Texts.{refusal_text};
 
 use crate::refusal::Refusal;
-use cli_text::{config_line, config_text, in_quotes, of_key};
+use cli_text::{config_line, config_text, fetch_text, in_quotes, of_key};
 use outside::NoMemory;
 use std::alloc::{AllocError, Global};
 use values::Text;
@@ -54,6 +54,11 @@ pub fn refusal_text(alloc: Global, refusal: &Refusal) -> Result<Text, NoMemory>
         Refusal::NotBuilt { section, key } => {
             Ok(not_built(alloc, section.as_str(), key.as_str())?)
         }
+        Refusal::NotFetched {
+            section,
+            key,
+            error,
+        } => fetch_text(alloc, key.as_str(), section.as_str(), error),
         Refusal::NoMemory => Ok(Text::copy_of(alloc, "out of memory\n")?),
     }
 }

@@ -113,7 +113,7 @@ fn next_row(
     match outcome {
         Outcome::Kept => kept_row(alloc, seen_at(a, planned.a), seen_at(b, planned.b)),
         Outcome::Gone => Ok(None),
-        Outcome::Written(row) => match copy_row(alloc, row) {
+        Outcome::Written(row) => match copy_row(alloc, row.get()) {
             Ok(row) => Ok(Some(row)),
             Err(error) => Err(error),
         },
@@ -200,7 +200,7 @@ fn differs_at(rows: &[Row], a: &Holding, b: &Holding, planned: &Planned, outcome
             kept_differs(seen_at(a, planned.a), seen_at(b, planned.b), old)
         }
         Outcome::Gone => had_row(row_of(rows, planned.ident)),
-        Outcome::Written(row) => differs_from(row, row_of(rows, planned.ident)),
+        Outcome::Written(row) => differs_from(row.get(), row_of(rows, planned.ident)),
         Outcome::Left => false,
         Outcome::Conflict => false,
         Outcome::NotWritten { side: _, error: _ } => false,

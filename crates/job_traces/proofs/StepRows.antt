@@ -74,12 +74,6 @@ place_taken c ident ss row from taken first href etag version =
       taken = subst (λ (v : List ℕ). IsTaken c ident v from.href from.etag) (sym version) (subst (λ (i : List ℕ). IsTaken c i (from.fp).0 from.href from.etag) is.1 (taken from is.0));
     }
 
--- where it was written: that of the write
-pub record IsPlaceWritten (c peer : Course) (ident : List ℕ) (row : Row) (saw to : Option (List ℕ)) : Type 0 where
-  pub wrote : WroteFor c peer ident saw to
-  pub href_is : href_on c.side row ≡ Some wrote.href
-  pub told : IsEtagOf (etag_on c.side row) wrote.new
-
 -- ---- a row that is made
 
 module _ (a b : Course) (x : Sources) (rows : List Row) (rules : Rules) (ident : List ℕ) where

@@ -6,14 +6,14 @@ use Rattle.store_model.specs.declared.store.StoreError.{StoreError}
 use Rattle.store_model.specs.declared.store.StoreError.TheVariants.{Fault, Moved, TooLong, TooMany, NotThere, Vanished, BadItem, NoMemory}
 use Rattle.store_model.specs.declared.event.StoreEvent.{StoreEvent}
 use Rattle.store_model.specs.Sides.{SideState, IsAnyEvent}
-use Rattle.store_model.specs.Waits.{Change, new_at, over_at, gone_at}
+use Rattle.store_model.specs.Waits.{Change, new_at}
 use Rattle.store_model.specs.StoreCalls.{PutNewAnswer, Changes}
 use Rattle.store_model.proofs.Moments.{Changes-weaker}
 use Rattle.sync_plan.specs.declared.report.Side.{Side}
 use Rattle.sync_plan.specs.declared.seen.Seen.{Seen}
 use Rattle.job_writes.specs.declared.outcome.Outcome.{Outcome}
-use Rattle.job_writes.specs.declared.outcome.Outcome.TheVariants.{NotWritten, NotRemoved}
-use Rattle.job_writes.specs.Writings.{SideNow, IsUnsent, NewFails, Sends, CopyAnswer, OverAnswer, RemovalAnswer}
+use Rattle.job_writes.specs.declared.outcome.Outcome.TheVariants.{NotWritten}
+use Rattle.job_writes.specs.Writings.{SideNow, IsUnsent, NewFails, Sends, CopyAnswer}
 
 pub unsent_sends : (c : Change) (error : StoreError) (s t : SideNow) → IsUnsent c error s t → Sends c s t
 unsent_sends c Moved s t h = inl (inl h.0, h.2)
@@ -46,14 +46,6 @@ module _ (waits : Bool) (may : List ℕ → Type 0) (side : Side) (from : Seen) 
   pub copy_fails : (error : StoreError) (r : Result Outcome AllocError) → IfOk r (λ o. o ≡ NotWritten side error) → PutNewAnswer waits may item s.state s.waiting t.state t.waiting (Err error) → CopyAnswer waits side from item s t r
   copy_fails error (Ok o) told h = subst (λ (o : Outcome). CopyAnswer waits side from item s t (Ok o)) (sym told) (refl, new_fails error h)
   copy_fails error (Err e) told h = new_sends item s t error (new_fails error h)
-
-pub over_fails : (waits : Bool) (side : Side) (over from : Seen) (item : ItemValue) (s t : SideNow) (error : StoreError) (r : Result Outcome AllocError) → IfOk r (λ o. o ≡ NotWritten side error) → IsUnsent (over_at over.href over.etag item.text) error s t → OverAnswer waits side over from item s t r
-over_fails waits side over from item s t error (Ok o) told h = subst (λ (o : Outcome). OverAnswer waits side over from item s t (Ok o)) (sym told) (refl, h)
-over_fails waits side over from item s t error (Err e) told h = unsent_sends (over_at over.href over.etag item.text) error s t h
-
-pub drop_fails : (waits : Bool) (side : Side) (over : Seen) (s t : SideNow) (error : StoreError) (r : Result Outcome AllocError) → IfOk r (λ o. o ≡ NotRemoved side error) → IsUnsent (gone_at over.href over.etag) error s t → RemovalAnswer waits side over s t r
-drop_fails waits side over s t error (Ok o) told h = subst (λ (o : Outcome). RemovalAnswer waits side over s t (Ok o)) (sym told) (refl, h)
-drop_fails waits side over s t error (Err e) told h = unsent_sends (gone_at over.href over.etag) error s t h
 
 pub any_change : {S : Type 0} {count : S → ℕ} {tells : S → Type 0} {side : S → SideState} {Kind : StoreEvent → Type 0} {s t : S} → Changes count tells side Kind s t → Changes count tells side IsAnyEvent s t
 any_change changes = Changes-weaker (λ e kind. tt) changes

@@ -1,5 +1,6 @@
 //! What becomes of a step.
 
+use side_reads::Boxed;
 use status_keeper::Row;
 use store_model::StoreError;
 use sync_plan::Side;
@@ -12,7 +13,7 @@ pub enum Outcome {
     /// Neither side has it any more.
     Gone,
     /// It was written, and this is its row.
-    Written(Row),
+    Written(Boxed<Row>),
     /// Nothing is done for it, and its row stays.
     Left,
     /// Both sides changed, and its row stays.

@@ -11,6 +11,7 @@ ghost use Rattle.job_writes.specs.Writings.{row_beside, now_of, CopyAnswer, Over
 
 use crate::outcome::Outcome;
 use crate::sources::Source;
+use side_reads::Boxed;
 use status_keeper::Row;
 use std::alloc::{AllocError, Global};
 use store_model::{Store, StoreError};
@@ -24,7 +25,7 @@ fn row_beside(
     from: &Seen,
     href: Text,
     etag: Option<Text>,
-) -> Result<Row, AllocError>
+) -> Result<Boxed<Row>, AllocError>
     ensures { IfOk result (λ row. row ≡ row_beside side from.now href etag) }
 {
     let ident = Text::copy_of(alloc, from.ident.as_str())?;
@@ -32,7 +33,7 @@ fn row_beside(
     let from_etag = Some(Text::copy_of(alloc, from.etag.as_str())?);
     let fp = from.fp;
     let href = Some(href);
-    Ok(match side {
+    let row = match side {
         Side::A => Row {
             ident,
             fp,
@@ -49,7 +50,8 @@ fn row_beside(
             href_b: href,
             etag_b: etag,
         },
-    })
+    };
+    Boxed::of(alloc, row)
 }
 
 /// What a write leaves that answered the error; want of memory ends the run.

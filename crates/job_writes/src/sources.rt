@@ -32,7 +32,7 @@ fn text_at<'h>(held: &'h Holding, place: Option<u32>) -> Option<&'h Item>
         return None;
     };
     match held.items.get(place as usize) {
-        Some(Some(item)) => Some(item),
+        Some(Some(item)) => Some(item.get()),
         _ => None,
     }
 }

@@ -13,8 +13,9 @@ use Rattle.multistatus.specs.declared.scopes.Binding.{Binding}
 use Rattle.multistatus.specs.declared.scopes.Expanded.{Expanded}
 use Rattle.multistatus.specs.Steps.{◌>>=◌, all_some}
 use Rattle.multistatus.specs.Namespaces.{attribute_name, is_same, all_differ, if_differ}
+use Rattle.multistatus.specs.Marks.{mark_of, space_cmp}
 use Rattle.multistatus.specs.Scopes.{differing}
-use Rattle.multistatus.proofs.Runs.{bind_same, bind_assoc}
+use Rattle.multistatus.proofs.Runs.{bind_same, bind_assoc, bytes_same, bytes_equal}
 use Rattle.multistatus.proofs.Namings.{bind_none}
 
 abbrev pub Key : Type 0
@@ -33,7 +34,7 @@ differ_from has names = cond (all_differ names && are_new has names) (Some tt) N
 
 -- keys by their bytes
 abbrev pub key_cmp : Key → Key → Ordering
-key_cmp x y = ordering_then (slice_cmp nat_cmp x.0 y.0) (slice_cmp nat_cmp x.1 y.1)
+key_cmp x y = ordering_then (slice_cmp nat_cmp x.0 y.0) (space_cmp x.1 y.1)
 
 abbrev pub has_key : List Key → Key → Bool
 has_key seen q = list_any (is_at (key_cmp q)) seen
@@ -71,12 +72,27 @@ eq_then Less b = refl
 eq_then Equal b = refl
 eq_then Greater b = refl
 
+same_marks : (x y : List ℕ) (t : Bool) → bytes_eq x y ≡ t → (bytes_eq (mark_of x) (mark_of y) && t) ≡ t
+same_marks x y true h = and_true (bytes_eq (mark_of x) (mark_of y)) ∙ ap (λ (z : List ℕ). bytes_eq (mark_of x) (mark_of z)) (sym (bytes_equal x y h)) ∙ bytes_same (mark_of x)
+same_marks x y false h = and_false (bytes_eq (mark_of x) (mark_of y))
+  where
+    and_false : (b : Bool) → (b && false) ≡ false
+    and_false true = refl
+    and_false false = refl
+
+is_eq-space_cmp : (x y : List ℕ) → is_eq (space_cmp x y) ≡ bytes_eq x y
+is_eq-space_cmp x y =
+    eq_then (slice_cmp nat_cmp (mark_of x) (mark_of y)) (slice_cmp nat_cmp x y)
+    ∙ ap (λ (b : Bool). b && is_eq (slice_cmp nat_cmp x y)) (is_eq-slice_cmp (mark_of x) (mark_of y))
+    ∙ ap (λ (b : Bool). bytes_eq (mark_of x) (mark_of y) && b) (is_eq-slice_cmp x y)
+    ∙ same_marks x y (bytes_eq x y) refl
+
 -- the order tells the same keys
 is_same-at : (n m : Expanded) → is_at (key_cmp (key_of n)) (key_of m) ≡ is_same n m
 is_same-at n m =
-    eq_then (slice_cmp nat_cmp n.local m.local) (slice_cmp nat_cmp n.space m.space)
-    ∙ ap (λ (b : Bool). b && is_eq (slice_cmp nat_cmp n.space m.space)) (is_eq-slice_cmp n.local m.local)
-    ∙ ap (λ (b : Bool). bytes_eq n.local m.local && b) (is_eq-slice_cmp n.space m.space)
+    eq_then (slice_cmp nat_cmp n.local m.local) (space_cmp n.space m.space)
+    ∙ ap (λ (b : Bool). b && is_eq (space_cmp n.space m.space)) (is_eq-slice_cmp n.local m.local)
+    ∙ ap (λ (b : Bool). bytes_eq n.local m.local && b) (is_eq-space_cmp n.space m.space)
 
 -- one more key is seen
 abbrev pub SeesMore : Expanded → List Key → List Key → Type 0

@@ -2,7 +2,6 @@
 use Rattle.std.proofs.Common.{◌≡◌, refl, ℕ, List, [], ◌∷◌, ◌++◌, sym, ◌∙◌, ap, subst, append_assoc}
 use Rattle.std.specs.List.{flat_map}
 use Rattle.multistatus.specs.declared.tags.Tag.{Tag}
-use Rattle.multistatus.specs.declared.tags.Name.{Name}
 use Rattle.multistatus.specs.declared.tokens.Token.{Token}
 use Rattle.multistatus.specs.Tokens.{AreTokens}
 use Rattle.multistatus.specs.Elements.{Content, nothing, blanks, text, element, Event, is_blank, is_text, opens, closes, events_of, events_of_token, root_of}

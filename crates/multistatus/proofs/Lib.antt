@@ -11,3 +11,4 @@ pub mod Takings
 pub mod Scoping
 pub mod Turns
 pub mod Whole
+mod Propstats

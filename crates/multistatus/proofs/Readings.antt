@@ -12,7 +12,7 @@ use Rattle.multistatus.specs.Steps.{◌>>=◌, Fails, Gives}
 use Rattle.multistatus.specs.Tokens.{token_at, AreTokens, without_mark, without_declaration}
 use Rattle.multistatus.specs.Elements.{Content, nothing, element, Event, events_of_token, root_of, is_within}
 use Rattle.multistatus.specs.Namespaces.{Tree, resolved, first_scope}
-use Rattle.multistatus.specs.Documents.{most_nested, HasTree}
+use Rattle.multistatus.specs.Documents.{most_nested}
 use Rattle.multistatus.specs.Multistatus.{rows_of_root, HasRows, IsAnswer}
 use Rattle.multistatus.specs.Reader.{State, run, step, run_token, first_state, rows_outside, rows_at_end, RunsTo}
 use Rattle.multistatus.proofs.Runs.{at, run-nil, shaped, bind_some, some_same, chosen}

@@ -1,6 +1,6 @@
 -- What bytes are as a document: a tree of elements with their names resolved (XML 1.0, fifth edition; Namespaces in XML
 -- 1.0). No document type is read, no entity but the five, and no more than 32 elements in one another.
-use Rattle.std.specs.Prelude.{◌≡◌, ℕ, true, List, Option, Some, IsUtf8}
+use Rattle.std.specs.Prelude.{◌≡◌, ℕ, true, List, Some, IsUtf8}
 use Rattle.std.specs.List.{flat_map}
 use Rattle.multistatus.specs.declared.tags.Tag.{Tag}
 use Rattle.multistatus.specs.declared.tokens.Token.{Token}

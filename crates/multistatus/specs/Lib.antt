@@ -1,9 +1,13 @@
+pub mod Refusals
 pub mod Steps
+pub mod Marks
 pub mod Texts
 pub mod Tags
 pub mod Tokens
 pub mod Elements
 pub mod Namespaces
+pub mod Kept
+pub mod Props
 pub mod Rows
 pub mod Maps
 pub mod Documents

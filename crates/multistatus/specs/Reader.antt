@@ -99,8 +99,11 @@ abbrev pub rows_of_parts : ResponseParts → Option (List Response)
 rows_of_parts parts = ended_response parts.hrefs parts.codes parts.has_propstat parts.props
 
 -- an element that has ended in another one
+abbrev pub joined_rows : List Response → Option (List Response) → Option Frame
+joined_rows rows found = found >>= λ more. Some (InMultistatus (rows ++ more))
+
 abbrev pub joined_multistatus : List Response → Frame → Option Frame
-joined_multistatus rows (InResponse parts) = rows_of_parts parts >>= λ more. Some (InMultistatus (rows ++ more))
+joined_multistatus rows (InResponse parts) = joined_rows rows (rows_of_parts parts)
 joined_multistatus rows child = Some (InMultistatus rows)
 
 abbrev pub joined_response : ResponseParts → Frame → Option Frame

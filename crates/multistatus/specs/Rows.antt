@@ -9,6 +9,7 @@ use Rattle.multistatus.specs.declared.rows.Property.{Property}
 use Rattle.multistatus.specs.Steps.{◌>>=◌, all_some}
 use Rattle.multistatus.specs.Texts.{front, behind, stripped, trimmed}
 use Rattle.multistatus.specs.Namespaces.{Tree, end, chars, branch}
+use Rattle.multistatus.specs.Props.{with_code}
 
 -- a name of the namespace `DAV:`
 abbrev pub is_dav : List ℕ → Expanded → Bool
@@ -76,9 +77,6 @@ abbrev pub properties_of : Tree → List Property
 properties_of end = []
 properties_of (chars t more) = properties_of more
 properties_of (branch name inside more) = property_of name inside ∷ properties_of more
-
-abbrev pub with_code : ℕ → Property → Prop
-with_code code p = record { space = p.space; name = p.name; code = code; text = p.text; children = p.children; hrefs = p.hrefs }
 
 -- a propstat has one `prop` and one `status` (section 14.22)
 abbrev pub propstat_from : List ℕ → List (List Property) → Option (List Prop)

@@ -1,14 +1,16 @@
 //! What elements give as they end (RFC 4918, section 14).
 
 ghost use Rattle.multistatus.specs.Reader as spec;
-ghost use Rattle.multistatus.specs.Rows.{propstat_from, with_code, of_status, status_code};
+ghost use Rattle.multistatus.specs.Props.{with_code};
+ghost use Rattle.multistatus.specs.Rows.{propstat_from, of_status, status_code};
 ghost use Rattle.multistatus.specs.Steps.{Gives};
 ghost use Rattle.multistatus.specs.Texts.{trimmed};
-ghost use Rattle.std.specs.Prelude.{◌≡◌, map, Some, true, IfOk};
+ghost use Rattle.std.specs.Prelude.{◌≡◌, ◌++◌, map, Some, true, IfOk};
 
 use crate::MultiError;
 use crate::frames::{Frame, PropstatParts, ResponseParts};
-use crate::rows::{Prop, Property, Response};
+use crate::props::{Kept, Props, Propstat};
+use crate::rows::{Property, Response};
 use crate::status::status_code;
 use crate::text::trimmed;
 use bumpalo::Bump;
@@ -26,9 +28,9 @@ pub(crate) fn ended<'a>(
 {
     match parent {
         Frame::InMultistatus(rows) => ended_in_multistatus(alloc, rows, child),
-        Frame::InResponse(parts) => ended_in_response(alloc, arena, parts, child),
+        Frame::InResponse(parts) => ended_in_response(arena, parts, child),
         Frame::InPropstat(parts) => ended_in_propstat(arena, parts, child),
-        Frame::InProp(properties) => ended_in_prop(properties, child),
+        Frame::InProp(properties) => ended_in_prop(arena, properties, child),
         Frame::InProperty(property) => ended_in_property(arena, property, child),
         Frame::InHref(text) => Ok(Frame::InHref(text)),
         Frame::InStatus(text) => Ok(Frame::InStatus(text)),
@@ -46,14 +48,11 @@ fn ended_in_multistatus<'a>(
     let Frame::InResponse(parts) = child else {
         return Ok(Frame::InMultistatus(rows));
     };
-    let more = rows_of_parts(alloc, parts)?;
-    let mut rows = rows;
-    rows.append(more)?;
+    let rows = with_rows(alloc, rows, parts)?;
     Ok(Frame::InMultistatus(rows))
 }
 
 fn ended_in_response<'a>(
-    alloc: Global,
     arena: &'a Bump,
     parts: ResponseParts<'a>,
     child: Frame<'a>,
@@ -75,8 +74,8 @@ fn ended_in_response<'a>(
             Ok(Frame::InResponse(parts))
         }
         Frame::InPropstat(of_propstat) => {
-            let more = props_of(alloc, arena, of_propstat)?;
-            parts.props.append(more)?;
+            let propstat = propstat_of(of_propstat)?;
+            parts.props.push(propstat)?;
             parts.has_propstat = true;
             Ok(Frame::InResponse(parts))
         }
@@ -108,7 +107,8 @@ fn ended_in_propstat<'a>(
 }
 
 fn ended_in_prop<'a>(
-    properties: Sequence<Property<'a>>,
+    arena: &'a Bump,
+    properties: Sequence<Kept<'a>>,
     child: Frame<'a>,
 ) -> Result<Frame<'a>, MultiError>
     ensures { Gives (λ f. f) result (Some (spec.joined_prop properties.entry child.entry)) }
@@ -116,8 +116,9 @@ fn ended_in_prop<'a>(
     let Frame::InProperty(property) = child else {
         return Ok(Frame::InProp(properties));
     };
+    let kept = Kept::of(arena, property)?;
     let mut properties = properties;
-    properties.push(property)?;
+    properties.push(kept)?;
     Ok(Frame::InProp(properties))
 }
 
@@ -145,71 +146,23 @@ fn code_of(text: &str) -> Result<u16, MultiError>
     status_code(trimmed(text))
 }
 
-/// The properties of a propstat, each with its code.
-fn props_of<'a>(
-    alloc: Global,
-    arena: &'a Bump,
-    parts: PropstatParts<'a>,
-) -> Result<Sequence<Prop<'a>>, MultiError>
-    ensures { Gives (λ props. props) result (propstat_from parts.entry.codes parts.entry.lists) }
+/// The properties of a propstat and their code.
+fn propstat_of<'a>(parts: PropstatParts<'a>) -> Result<Propstat<'a>, MultiError>
+    ensures { Gives (λ p. map (with_code p.code) p.listed) result (propstat_from parts.entry.codes parts.entry.lists) }
 {
     let PropstatParts { codes, lists } = parts;
     let code = only_code(codes.as_slice())?;
     let listed = only_list(lists)?;
-    let props = with_code(alloc, arena, code, listed)?;
-    Ok(props)
+    Ok(Propstat { code, listed })
 }
 
-/// Properties with the code.
-fn with_code<'a>(
+/// The rows so far and those of a response.
+fn with_rows<'a>(
     alloc: Global,
-    arena: &'a Bump,
-    code: u16,
-    properties: Sequence<Property<'a>>,
-) -> Result<Sequence<Prop<'a>>, AllocError>
-    ensures { IfOk result (λ props. props ≡ map (with_code code) properties.entry) }
-{
-    let mut listed = properties;
-    let mut props = Vec::with_capacity(alloc, listed.len())?;
-    while let Some(property) = listed.pop() {
-        let prop = property_with_code(arena, code, property)?;
-        props.push(prop)?;
-    }
-    props.reverse();
-    Ok(Sequence::of(props))
-}
-
-fn property_with_code<'a>(
-    arena: &'a Bump,
-    code: u16,
-    property: Property<'a>,
-) -> Result<Prop<'a>, AllocError>
-    ensures { IfOk result (λ prop. prop ≡ with_code code property.entry) }
-{
-    let Property {
-        space,
-        name,
-        text,
-        children,
-        hrefs,
-    } = property;
-    let whole = text.text(arena)?;
-    Ok(Prop {
-        space,
-        name,
-        code,
-        text: Lent::of(whole),
-        children,
-        hrefs,
-    })
-}
-
-/// The rows of a response.
-fn rows_of_parts<'a>(
-    alloc: Global,
+    rows: Sequence<Response<'a>>,
     parts: ResponseParts<'a>,
 ) -> Result<Sequence<Response<'a>>, MultiError>
-    ensures { Gives (λ rows. rows) result (spec.rows_of_parts parts.entry) }
+    ensures { Gives (λ all. Frame.InMultistatus all) result (spec.joined_rows rows.entry (spec.rows_of_parts parts.entry)) }
 {
     let ResponseParts {
         hrefs,
@@ -218,30 +171,30 @@ fn rows_of_parts<'a>(
         props,
     } = parts;
     if has_propstat {
-        return row_of_props(alloc, hrefs, codes, props);
+        return with_row_of_props(rows, hrefs, codes, props);
     }
     let code = only_code(codes.as_slice())?;
     if hrefs.is_empty() {
         return Err(MultiError::Bad);
     }
-    let rows = rows_of_status(alloc, code, hrefs)?;
+    let rows = with_rows_of_status(alloc, rows, code, hrefs.as_slice())?;
     Ok(rows)
 }
 
-/// The row of a response with propstats.
-fn row_of_props<'a>(
-    alloc: Global,
+/// The rows so far and that of a response with propstats.
+fn with_row_of_props<'a>(
+    rows: Sequence<Response<'a>>,
     hrefs: Sequence<Lent<'a>>,
     codes: Sequence<u16>,
-    props: Sequence<Prop<'a>>,
+    props: Props<'a>,
 ) -> Result<Sequence<Response<'a>>, MultiError>
-    ensures { Gives (λ rows. rows) result (spec.ended_response hrefs.entry codes true props.entry) }
+    ensures { Gives (λ all. Frame.InMultistatus all) result (spec.joined_rows rows.entry (spec.ended_response hrefs.entry codes true props.entry)) }
 {
     let href = only_href(hrefs)?;
     if !codes.is_empty() {
         return Err(MultiError::Bad);
     }
-    let mut rows = Sequence::new(alloc);
+    let mut rows = rows;
     rows.push(Response {
         href,
         code: None,
@@ -250,30 +203,30 @@ fn row_of_props<'a>(
     Ok(rows)
 }
 
-/// A row of the status for each href.
-fn rows_of_status<'a>(
+/// The rows so far and a row of the status for each href.
+fn with_rows_of_status<'a>(
     alloc: Global,
+    rows: Sequence<Response<'a>>,
     code: u16,
-    hrefs: Sequence<Lent<'a>>,
+    hrefs: &[Lent<'a>],
 ) -> Result<Sequence<Response<'a>>, AllocError>
-    ensures { IfOk result (λ rows. rows ≡ map (of_status code) hrefs.entry) }
+    ensures { IfOk result (λ all. all ≡ rows.entry ++ map (of_status code) hrefs.now) }
 {
-    let mut hrefs = hrefs;
-    let mut rows = Vec::with_capacity(alloc, hrefs.len())?;
-    while let Some(href) = hrefs.pop() {
-        rows.push(row_of_status(alloc, code, href))?;
+    let mut rows = rows;
+    for href in hrefs {
+        let row = row_of_status(alloc, code, href);
+        rows.push(row)?;
     }
-    rows.reverse();
-    Ok(Sequence::of(rows))
+    Ok(rows)
 }
 
-fn row_of_status<'a>(alloc: Global, code: u16, href: Lent<'a>) -> Response<'a>
-    ensures { result ≡ of_status code href.entry }
+fn row_of_status<'a>(alloc: Global, code: u16, href: &Lent<'a>) -> Response<'a>
+    ensures { result ≡ of_status code href.now }
 {
     Response {
-        href,
+        href: Lent::of(href.as_str()),
         code: Some(code),
-        props: Sequence::new(alloc),
+        props: Props::new(alloc),
     }
 }
 
@@ -288,9 +241,7 @@ fn only_code(codes: &[u16]) -> Result<u16, MultiError>
 }
 
 /// The only list.
-fn only_list<'a>(
-    lists: Sequence<Sequence<Property<'a>>>,
-) -> Result<Sequence<Property<'a>>, MultiError>
+fn only_list<'a>(lists: Sequence<Sequence<Kept<'a>>>) -> Result<Sequence<Kept<'a>>, MultiError>
     ensures { Gives (λ listed. listed) result (spec.only lists.entry) }
 {
     let mut lists = lists;

@@ -4,17 +4,31 @@ ghost use Rattle.std.specs.Prelude.{◌≡◌};
 ghost use Rattle.multistatus.specs.declared.error.MultiError.TheVariants.{NoMemory};
 
 use std::alloc::{AllocError, AllocFailed};
-use thiserror::Error;
+use std::error::Error;
+use std::fmt;
 
-/// Why no rows are read.
-#[derive(Debug, Drop, Error)]
+/// Why no rows are read. It displays as it is printed of a storage.
+#[derive(Debug, Drop)]
 pub enum MultiError {
     /// The bytes are no multistatus, or nest more than 32 elements.
-    #[error("bad reply")]
     Bad,
-    #[error("out of memory")]
     NoMemory,
 }
+
+impl fmt::Display for MultiError {
+    ghost use Rattle.multistatus.specs.Refusals.{error_text};
+
+    ghost output = { error_text };
+
+    fn fmt<W: fmt::Write>(&self, f: &mut fmt::Formatter<W>) -> fmt::Result {
+        match self {
+            MultiError::Bad => f.write_str("bad reply"),
+            MultiError::NoMemory => f.write_str("out of memory"),
+        }
+    }
+}
+
+impl Error for MultiError {}
 
 impl From<AllocError> for MultiError {
     ghost from_gives = { λ _ e. e ≡ NoMemory };

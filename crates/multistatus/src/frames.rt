@@ -7,7 +7,9 @@ ghost use Rattle.std.specs.Prelude.{◌≡◌, ◌++◌, [], ◌∷◌, Some, If
 
 use crate::MultiError;
 use crate::gathered::Gathered;
-use crate::rows::{Prop, Property, Response};
+use crate::lists::Growing;
+use crate::props::{Kept, Props};
+use crate::rows::{Property, Response};
 use crate::scopes::Expanded;
 use std::alloc::{AllocError, Global};
 use values::{Lent, Sequence};
@@ -18,7 +20,7 @@ pub(crate) enum Frame<'a> {
     InMultistatus(Sequence<Response<'a>>),
     InResponse(ResponseParts<'a>),
     InPropstat(PropstatParts<'a>),
-    InProp(Sequence<Property<'a>>),
+    InProp(Sequence<Kept<'a>>),
     InProperty(Property<'a>),
     InHref(Gathered<'a>),
     InStatus(Gathered<'a>),
@@ -31,14 +33,14 @@ pub(crate) struct ResponseParts<'a> {
     pub hrefs: Sequence<Lent<'a>>,
     pub codes: Sequence<u16>,
     pub has_propstat: bool,
-    pub props: Sequence<Prop<'a>>,
+    pub props: Props<'a>,
 }
 
 /// The children of a propstat.
 #[derive(Debug, Drop)]
 pub(crate) struct PropstatParts<'a> {
     pub codes: Sequence<u16>,
-    pub lists: Sequence<Sequence<Property<'a>>>,
+    pub lists: Sequence<Sequence<Kept<'a>>>,
 }
 
 /// Whether a name is this one of `DAV:`.
@@ -94,7 +96,7 @@ fn begun_in_multistatus<'a>(alloc: Global, name: &Expanded<'a>) -> Frame<'a>
         hrefs: Sequence::new(alloc),
         codes: Sequence::new(alloc),
         has_propstat: false,
-        props: Sequence::new(alloc),
+        props: Props::new(alloc),
     })
 }
 
@@ -145,8 +147,8 @@ fn new_property<'a>(alloc: Global, name: Expanded<'a>) -> Frame<'a>
         space,
         name: local,
         text: Gathered::new(alloc),
-        children: Sequence::new(alloc),
-        hrefs: Sequence::new(alloc),
+        children: Growing::new(alloc),
+        hrefs: Growing::new(alloc),
     })
 }
 

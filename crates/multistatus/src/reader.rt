@@ -59,7 +59,7 @@ impl<'a> Reader<'a> {
             Token::Passed => Ok(self),
             Token::Blank(white) => self.behind_blank(white),
             Token::Chars(chars) => self.behind_chars(chars),
-            Token::Open(tag) => self.behind_open(alloc, tag),
+            Token::Open(tag) => self.behind_open(alloc, arena, tag),
             Token::Empty(tag) => self.behind_empty(alloc, arena, tag),
             Token::Close(name) => self.behind_close(alloc, arena, name),
         }
@@ -85,13 +85,18 @@ impl<'a> Reader<'a> {
         }
     }
 
-    fn behind_open(self, alloc: Global, tag: Tag<'a>) -> Result<Reader<'a>, MultiError>
+    fn behind_open(
+        self,
+        alloc: Global,
+        arena: &'a Bump,
+        tag: Tag<'a>,
+    ) -> Result<Reader<'a>, MultiError>
         ensures { Gives (λ r. state_of r) result (opened_in (reverse self.entry.levels) self.entry.rows tag.entry) }
     {
         if MOST_NESTED <= self.levels.len() {
             return Err(MultiError::Bad);
         }
-        let opened = opening_of(alloc, self.levels.as_slice(), &tag)?;
+        let opened = opening_of(alloc, arena, self.levels.as_slice(), &tag)?;
         let Tag { name, attributes } = tag;
         drop(attributes);
         self.begun(alloc, name, opened)
@@ -121,7 +126,7 @@ impl<'a> Reader<'a> {
     ) -> Result<Reader<'a>, MultiError>
         ensures { Gives (λ r. state_of r) result (spec.emptied_in (state_of self.entry) tag.entry) }
     {
-        let inside = self.behind_open(alloc, tag)?;
+        let inside = self.behind_open(alloc, arena, tag)?;
         inside.behind_end(alloc, arena)
     }
 

@@ -4,36 +4,33 @@ ghost use Rattle.multistatus.specs.Maps.{IsMapOf};
 ghost use Rattle.multistatus.specs.declared.scopes.Binding.{Binding};
 ghost use Rattle.std.specs.Prelude.{List, ◌≡◌, [], ◌∷◌, ◌++◌, reverse, Some, IfOk, OnOk};
 ghost use Rattle.std.specs.List.{list_all};
-ghost use Rattle.std.specs.Option.{option_copied};
 ghost use Rattle.multistatus.specs.Namespaces as spec;
 ghost use Rattle.multistatus.specs.Reader.{scope_of, scope_in};
 ghost use Rattle.multistatus.specs.Scopes.{differing, opening};
 ghost use Rattle.multistatus.specs.Steps.{Gives};
 
 use crate::MultiError;
+use crate::namespace::{Namespace, XML_SPACE, XMLNS_SPACE};
 use crate::reader::Level;
 use crate::tags::{Attribute, Name, Tag};
+use bumpalo::Bump;
 use std::alloc::{AllocError, Global};
 use std::collections::{BTreeMap, BTreeSet};
 use std::marker::Model;
 use values::{Lent, Sequence};
 
-const XML_SPACE: &str = "http://www.w3.org/XML/1998/namespace";
-
-const XMLNS_SPACE: &str = "http://www.w3.org/2000/xmlns/";
-
 /// A declaration: a prefix, of no bytes for names without one, and its namespace.
 #[derive(Debug, Drop)]
 pub(crate) struct Binding<'a> {
     pub prefix: Lent<'a>,
-    pub space: Lent<'a>,
+    pub space: Namespace<'a>,
 }
 
 /// The declarations of a tag, in order and by prefix.
 #[derive(Debug, Drop)]
 pub(crate) struct Declarations<'a> {
     listed: Sequence<Binding<'a>>,
-    by_prefix: BTreeMap<Lent<'a>, Lent<'a>>,
+    by_prefix: BTreeMap<Lent<'a>, Namespace<'a>>,
 }
 
 impl<'a> Model for Declarations<'a> {
@@ -78,11 +75,11 @@ impl<'a> Declarations<'a> {
     }
 
     /// The namespace of a prefix.
-    fn space(&self, prefix: &Lent<'a>) -> Option<&'a str>
-        ensures { option_copied result ≡ spec.space_of prefix.now self.now }
+    fn space(&self, prefix: &Lent<'a>) -> Option<Namespace<'a>>
+        ensures { result ≡ spec.space_of prefix.now self.now }
     {
         match self.by_prefix.get(prefix) {
-            Some(space) => Some(space.as_str()),
+            Some(space) => Some(space.again()),
             None => None,
         }
     }
@@ -90,16 +87,16 @@ impl<'a> Declarations<'a> {
 
 /// The map of declarations and one more, which the earlier ones come before.
 fn mapped<'a>(
-    by_prefix: BTreeMap<Lent<'a>, Lent<'a>>,
+    by_prefix: BTreeMap<Lent<'a>, Namespace<'a>>,
     binding: &Binding<'a>,
-) -> Result<BTreeMap<Lent<'a>, Lent<'a>>, AllocError>
+) -> Result<BTreeMap<Lent<'a>, Namespace<'a>>, AllocError>
     ensures { IfOk result (λ more. (listed : List Binding) → IsMapOf by_prefix.entry listed → IsMapOf more (listed ++ binding.now ∷ [])) }
 {
     if by_prefix.contains_key(&binding.prefix) {
         return Ok(by_prefix);
     }
     let prefix = Lent::of(binding.prefix.as_str());
-    let space = Lent::of(binding.space.as_str());
+    let space = binding.space.again();
     let mut more = by_prefix;
     more.insert(prefix, space)?;
     Ok(more)
@@ -108,7 +105,7 @@ fn mapped<'a>(
 /// A name with its namespace, of no bytes where it is in none.
 #[derive(Debug, Drop)]
 pub(crate) struct Expanded<'a> {
-    pub space: Lent<'a>,
+    pub space: Namespace<'a>,
     pub local: Lent<'a>,
 }
 
@@ -123,12 +120,13 @@ pub(crate) struct Opened<'a> {
 #[tactic(auto, unfolding(crate::specs::Namespaces::opening_of))]
 pub(crate) fn opening_of<'a>(
     alloc: Global,
+    arena: &'a Bump,
     levels: &[Level<'a>],
     tag: &Tag<'a>,
 ) -> Result<Opened<'a>, MultiError>
     ensures { Gives (λ o. opening o) result (spec.opening_of (scope_of (reverse levels.now)) tag.now) }
 {
-    let declared = declarations_of(alloc, tag.attributes.as_slice())?;
+    let declared = declarations_of(alloc, arena, tag.attributes.as_slice())?;
     if !may_all_declare(declared.as_slice()) {
         return Err(MultiError::Bad);
     }
@@ -140,25 +138,27 @@ pub(crate) fn opening_of<'a>(
 /// The declarations among attributes.
 fn declarations_of<'a>(
     alloc: Global,
+    arena: &'a Bump,
     attributes: &[Attribute<'a>],
 ) -> Result<Declarations<'a>, AllocError>
     ensures { IfOk result (λ declared. declared ≡ spec.declarations_of attributes.now) }
 {
     let mut declared = Declarations::new(alloc);
     for attribute in attributes {
-        declared = with_attribute(declared, attribute)?;
+        declared = with_attribute(arena, declared, attribute)?;
     }
     Ok(declared)
 }
 
 /// The declarations and the one that an attribute is, if it is one.
 fn with_attribute<'a>(
+    arena: &'a Bump,
     declared: Declarations<'a>,
     attribute: &Attribute<'a>,
 ) -> Result<Declarations<'a>, AllocError>
     ensures { IfOk result (λ more. more ≡ declared.entry ++ spec.declarations_of (attribute.now ∷ [])) }
 {
-    match declaration_of(attribute) {
+    match declaration_of(arena, attribute)? {
         Some(binding) => declared.with(binding),
         None => Ok(declared),
     }
@@ -166,21 +166,24 @@ fn with_attribute<'a>(
 
 /// The declaration that an attribute is, if it is one.
 #[tactic(auto, unfolding(crate::specs::Namespaces::declaration_of))]
-fn declaration_of<'a>(attribute: &Attribute<'a>) -> Option<Binding<'a>>
-    ensures { result ≡ spec.declaration_of attribute.now }
+fn declaration_of<'a>(
+    arena: &'a Bump,
+    attribute: &Attribute<'a>,
+) -> Result<Option<Binding<'a>>, AllocError>
+    ensures { IfOk result (λ found. found ≡ spec.declaration_of attribute.now) }
 {
     let name = &attribute.name;
     if name.prefix.as_str() == "xmlns" {
         let prefix = Lent::of(name.local.as_str());
-        let space = Lent::of(attribute.value.as_str());
-        return Some(Binding { prefix, space });
+        let space = Namespace::new(arena, attribute.value.as_str())?;
+        return Ok(Some(Binding { prefix, space }));
     }
     if name.prefix.as_str().is_empty() && name.local.as_str() == "xmlns" {
         let prefix = Lent::of("");
-        let space = Lent::of(attribute.value.as_str());
-        return Some(Binding { prefix, space });
+        let space = Namespace::new(arena, attribute.value.as_str())?;
+        return Ok(Some(Binding { prefix, space }));
     }
-    None
+    Ok(None)
 }
 
 fn may_all_declare(declared: &[Binding<'_>]) -> bool
@@ -224,8 +227,8 @@ fn space_of<'a>(
     declared: &Declarations<'a>,
     levels: &[Level<'a>],
     prefix: &Lent<'a>,
-) -> Option<&'a str>
-    ensures { option_copied result ≡ spec.space_of prefix.now (scope_in declared.now levels.now) }
+) -> Option<Namespace<'a>>
+    ensures { result ≡ spec.space_of prefix.now (scope_in declared.now levels.now) }
 {
     if let Some(space) = declared.space(prefix) {
         return Some(space);
@@ -234,8 +237,8 @@ fn space_of<'a>(
 }
 
 /// The namespace of a prefix, by the declarations of elements.
-fn space_around<'a>(levels: &[Level<'a>], prefix: &Lent<'a>) -> Option<&'a str>
-    ensures { option_copied result ≡ spec.space_of prefix.now (scope_of (reverse levels.now)) }
+fn space_around<'a>(levels: &[Level<'a>], prefix: &Lent<'a>) -> Option<Namespace<'a>>
+    ensures { result ≡ spec.space_of prefix.now (scope_of (reverse levels.now)) }
 {
     let mut n = levels.len();
     while 0 < n {
@@ -245,7 +248,7 @@ fn space_around<'a>(levels: &[Level<'a>], prefix: &Lent<'a>) -> Option<&'a str>
         }
     }
     if prefix.as_str() == "xml" {
-        Some(XML_SPACE)
+        Some(Namespace::xml())
     } else {
         None
     }
@@ -266,16 +269,15 @@ fn element_name<'a>(
             if !name.prefix.as_str().is_empty() {
                 return Err(MultiError::Bad);
             }
-            Ok(named("", name))
+            Ok(named(Namespace::none(), name))
         }
     }
 }
 
 /// The local part of a name in a namespace.
-fn named<'a>(space: &'a str, name: &Name<'a>) -> Expanded<'a>
-    ensures { result ≡ record { space = space.now; local = name.now.local } }
+fn named<'a>(space: Namespace<'a>, name: &Name<'a>) -> Expanded<'a>
+    ensures { result ≡ record { space = space.entry; local = name.now.local } }
 {
-    let space = Lent::of(space);
     let local = Lent::of(name.local.as_str());
     Expanded { space, local }
 }
@@ -286,14 +288,14 @@ fn attribute_space<'a>(
     declared: &Declarations<'a>,
     levels: &[Level<'a>],
     prefix: &Lent<'a>,
-) -> Option<&'a str>
-    ensures { option_copied result ≡ spec.attribute_space (scope_in declared.now levels.now) prefix.now }
+) -> Option<Namespace<'a>>
+    ensures { result ≡ spec.attribute_space (scope_in declared.now levels.now) prefix.now }
 {
     if prefix.as_str().is_empty() {
-        return Some("");
+        return Some(Namespace::none());
     }
     if prefix.as_str() == "xmlns" {
-        return Some(XMLNS_SPACE);
+        return Some(Namespace::xmlns());
     }
     space_of(declared, levels, prefix)
 }

@@ -2,9 +2,7 @@ pub mod EtagLemmas
 pub mod FileMapLemmas
 pub mod FolderLemmas
 pub mod KnownBytes
-pub mod PlacedLemmas
 pub mod PlanLemmas
 pub mod Results
 pub mod Runs
-pub mod SlotLemmas
 pub mod StreamLemmas

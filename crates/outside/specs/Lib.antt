@@ -5,11 +5,9 @@ pub mod FileMapEmpty
 pub mod Files
 pub mod FolderCalls
 pub mod MemFolder
-pub mod Places
 pub mod Planned
 pub mod Plans
 pub mod Runs
 pub mod Shelf
-pub mod Slots
 pub mod StreamCalls
 pub mod Subfolders

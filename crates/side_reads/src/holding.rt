@@ -4,6 +4,7 @@ ghost use Rattle.std.specs.Prelude.{◌≡◌, ℕ, List, Option, Some, None, ma
 ghost use Rattle.side_reads.specs.Places.{row_at};
 ghost use Rattle.side_reads.specs.Holdings.{asked, IsOfRow, IsOfText, IsLastTaken, AreTaken};
 
+use crate::boxed::Boxed;
 use crate::places::Places;
 use crate::room::room_for;
 use item_text::Item;
@@ -17,14 +18,14 @@ use values::Text;
 #[derive(Drop)]
 pub struct Holding {
     pub seen: Vec<Seen>,
-    pub items: Vec<Option<Item>>,
+    pub items: Vec<Option<Boxed<Item>>>,
 }
 
 /// What is taken for one entry.
 #[derive(Drop)]
 struct Taken {
     seen: Seen,
-    item: Option<Item>,
+    item: Option<Boxed<Item>>,
 }
 
 /// The hrefs of the entries that are to be fetched: those whose place no row has.
@@ -74,7 +75,7 @@ fn of_text(alloc: Global, fetched: Fetched) -> Result<Taken, AllocError>
             href,
             etag,
         },
-        item: Some(item),
+        item: Some(Boxed::of(alloc, item)?),
     })
 }
 

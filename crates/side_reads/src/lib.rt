@@ -2,10 +2,12 @@
 //! others.
 #![tactic(auto)]
 
+mod boxed;
 mod holding;
 mod places;
 mod room;
 
+pub use boxed::Boxed;
 pub use holding::{Holding, asked};
 pub use places::Places;
 pub use room::room_for;

@@ -21,7 +21,7 @@ use Rattle.status_keeper.specs.declared.row.Row.{Row}
 use Rattle.status_keeper.specs.declared.keeper.KeeperError.{KeeperError}
 use Rattle.status_keeper.specs.declared.keeper.KeeperError.TheVariants.{Fault, Moved, Damaged, TooLong, NoMemory}
 use Rattle.status_keeper.specs.Kept.{KeeperEvent, KeeperState, Edited, Toggled, Made, Committed, Spoiled, happens, Evolves, IsEdit, IsMaking, IsCommitOf}
-use Rattle.status_keeper.specs.KeeperCalls.{AfterEdits, AfterPlacing, LoadAnswer, Commits, CommitAnswer, FoundAfter, KeeperCause, found_at, is_as_found}
+use Rattle.status_keeper.specs.KeeperCalls.{AfterEdits, AfterPlacing, LoadAnswer, Commits, CommitAnswer, found_at, is_as_found}
 use Rattle.status_keeper.specs.Reading.{Gives}
 use Rattle.status_keeper.specs.Status.{Kept, max_status, text_of, kept_of, kept_text}
 use Rattle.status_keeper.specs.FileStatus.{status_file, own_write, stamp_in, state_of, is_file_as_found, folder_placed, AfterMaking, PutAnswer, Puts, PutsTo, refusal_of, replaced_of}
@@ -210,14 +210,6 @@ nothing_kept_long s found rows long = (Runs-refl s, long)
 pub means_rows_of : (text : List ℕ) (rows : List Row) → text ≡ text_of rows → length text ≤ max_status → kept_text text ≡ Ok rows → kept_of (Some (text_of rows)) ≡ Ok rows
 means_rows_of text rows same fits means = ap (λ (x : List ℕ). kept_of (Some x)) (sym same) ∙ kept_of-within text fits ∙ means
 
--- what is found after an error that changed nothing
-pub found_still : (before now : Option (List ℕ)) (rows : List Row) (error : KeeperError) → now ≡ before → FoundAfter before now rows (Err error)
-found_still before now rows Fault h = inl h
-found_still before now rows Moved h = h
-found_still before now rows TooLong h = h
-found_still before now rows NoMemory h = h
-found_still before now rows (Damaged k) h = h
-
 -- ---- the runs of the calls
 
 edit_is_commit : (rows : List Row) (e : KeeperEvent) → IsEdit e → IsCommitOf rows e
@@ -259,9 +251,3 @@ commit_run found s t rows (Err Moved) h = along s h.moment t (Runs-weaker (makin
 commit_run found s t rows (Err TooLong) h = Runs-weaker (edit_is_commit rows) h.0
 commit_run found s t rows (Err NoMemory) h = Runs-weaker (making_is_commit rows) h
 commit_run found s t rows (Err (Damaged k)) h = absurd h
-
--- a refusal and its cause
-pub refused_cause : (rose : Type 0) (e : FolderError) → FolderCause rose e → KeeperCause rose (refusal_of e)
-refused_cause rose folder_error.Fault h = h
-refused_cause rose folder_error.TooLong h = tt
-refused_cause rose folder_error.NoMemory h = tt

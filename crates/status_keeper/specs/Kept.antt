@@ -93,14 +93,6 @@ IsCommitOf rows Made = Unit {0}
 IsCommitOf rows (Committed committed) = committed ≡ rows
 IsCommitOf rows (Spoiled kept stamp) = ⊥
 
--- what the keeper did itself: no edit from outside
-abbrev pub IsOwn : KeeperEvent → Type 0
-IsOwn (Edited kept stamp) = ⊥
-IsOwn Toggled = ⊥
-IsOwn Made = Unit {0}
-IsOwn (Committed rows) = Unit {0}
-IsOwn (Spoiled kept stamp) = Unit {0}
-
 -- a keeper changed by events of this kind alone, where it tells its state; its count of faults doesn't fall
 abbrev pub Changes : {X : Type 0} → (X → ℕ) → (X → Type 0) → (X → KeeperState) → (KeeperEvent → Type 0) → X → X → Type 0
 Changes count tells state Kind old new = ChangesBy happens IsTrueEvent count tells state Kind old new

@@ -1,5 +1,5 @@
 -- What stands at an href stood there before, or was put there from outside.
-use Rattle.std.proofs.Common.{◌≡◌, ◌≢◌, ◌⊎◌, inl, inr, ℕ, Bool, true, false, not, cond, List, [], ◌∷◌, ◌++◌, Option, Some, None, map, refl, sym, ◌∙◌, subst, ap, append-nil}
+use Rattle.std.proofs.Common.{◌≡◌, ◌⊎◌, inl, inr, ℕ, Bool, true, false, not, cond, List, [], ◌∷◌, ◌++◌, Option, Some, None, map, refl, sym, ◌∙◌, subst, ap, append-nil}
 use Rattle.std.proofs.lemmas.List.{map-append}
 use Rattle.outside.specs.Runs.{Leads}
 use Rattle.outside.proofs.Runs.{added, KeepsEvents, Runs-both, Runs-first, Runs-rest, Runs-kind_at}
@@ -7,15 +7,14 @@ use Rattle.std.specs.Ordering.{nat_cmp, eq_by_cmp}
 use Rattle.std.specs.Cmp.Lexicographic.{slice_cmp, nat_list_cmp_total}
 use Rattle.std.specs.Cmp.{Equal-is}
 use Rattle.std.specs.FinMap as fin
-use Rattle.std.specs.FinMap.{get-insert, get-remove, get-entries, find, slice_cmp-IsAntisymmetric, nat_cmp-IsAntisymmetric}
+use Rattle.std.specs.FinMap.{get-insert, get-remove, find, slice_cmp-IsAntisymmetric, nat_cmp-IsAntisymmetric}
 use Rattle.std.specs.List.{AllByRecursion}
-use Rattle.item_text.specs.Items.{ItemValue, item_of}
 use Rattle.store_model.specs.declared.event.Held.{Held}
 use Rattle.store_model.specs.declared.event.StoreEvent.{StoreEvent}
 use Rattle.store_model.specs.declared.event.StoreEvent.TheVariants.{Edited, Toggled, Wrote, Read}
 use Rattle.store_model.specs.declared.store.Fetched.{Fetched}
 use Rattle.store_model.specs.declared.store.Entry.{Entry}
-use Rattle.store_model.specs.StoreCalls.{WasFetched, entry_of}
+use Rattle.store_model.specs.StoreCalls.{entry_of}
 use Rattle.store_model.specs.Sides.{Content, SideState, put_held, happens, IsTrueEvent, Evolves, IsNoWrite, Since, PutOutside, Lacks, IsTextOf, IsNotOf, IsUntouching, IsAdding, HasNone}
 use Rattle.store_model.proofs.Moments.{Evolves-refl, Evolves-trans, Evolves-one, Since-from_evolves}
 
@@ -129,32 +128,6 @@ both_all : (P Q : Fetched → Type 0) (fs : List Fetched) → AllByRecursion P f
 both_all P Q [] p q = tt
 both_all P Q (f ∷ fs) p q = ((p.0, q.0), both_all P Q fs p.1 q.1)
 
--- an ident that is not among what was fetched of all listed hrefs: the side lacks it
-pub unfetched_is_lacked : (listed got t : SideState) (fs : List Fetched) (ident : List ℕ) → Evolves IsNoWrite listed got → Evolves IsNoWrite got t → map (λ f. f.href) fs ≡ map (λ e. e.0) (fin.entries listed.content) → AllByRecursion (WasFetched got t) fs → AllByRecursion (λ f. f.item.ident ≢ ident) fs → Lacks ident listed t
-unfetched_is_lacked listed got t fs ident before during same fetched others =
-    record {
-      each = λ href held item stands is_item of_ident.
-          let through : Evolves IsNoWrite listed t = Evolves-trans before during in
-          elim (kept_or_put through href) [
-            | inr put ↦ subst (λ (v : Option Held). PutOutside listed t href v) stands put
-            | inl kept ↦
-                let stood : find (slice_cmp nat_cmp) href (fin.entries listed.content) ≡ Some held = sym (get-entries listed.content href) ∙ (sym kept ∙ stands) in
-                let found = find_fetched (λ f. WasFetched got t f × (f.item.ident ≢ ident)) href held fs (fin.entries listed.content) same (both_all (WasFetched got t) (λ f. f.item.ident ≢ ident) fs fetched others) stood in
-                let f = found.0 in
-                let was = found.1.0.stood in
-                elim (kept_or_put (Evolves-rest during was.from was.until) href) [
-                  | inr put ↦ subst (λ (v : Option Held). PutOutside listed t href v) stands (put_extends (Evolves-trans (Since-from_evolves before) was.from) put (Evolves-refl t))
-                  | inl still ↦
-                      let there : fin.get (was.moment).content href ≡ Some (record { etag = f.etag; text = f.item.text }) = subst (λ (k : List ℕ). fin.get (was.moment).content k ≡ Some (record { etag = f.etag; text = f.item.text })) found.2 was.was in
-                      let one : Some held ≡ Some (record { etag = f.etag; text = f.item.text }) = sym stands ∙ (still ∙ there) in
-                      let text : held.text ≡ f.item.text = cc in
-                      let items : Some item ≡ Some f.item = sym is_item ∙ (ap item_of text ∙ found.1.0.is_item) in
-                      let item_same : item ≡ f.item = cc in
-                      absurd (found.1.1 (sym (ap (λ (i : ItemValue). i.ident) item_same) ∙ of_ident))
-                ]
-          ];
-    }
-
 pub Lacks-extends : {ident : List ℕ} {s s' m : SideState} → Since s s' → Lacks ident s' m → Lacks ident s m
 Lacks-extends {ident} {s} {s'} {m} before lacks = record { each = λ href held item stands is_item of_ident. put_extends before (lacks.each href held item stands is_item of_ident) (Evolves-refl m) }
 
@@ -162,23 +135,11 @@ entries_hrefs : (es : List (List ℕ × Held)) → map (λ (e : Entry). e.href) 
 entries_hrefs [] = refl
 entries_hrefs (e ∷ es) = ap (λ (l : List (List ℕ)). e.0 ∷ l) (entries_hrefs es)
 
--- what list and get leave out, the side lacks
-pub unread_is_lacked : (s listed got t : SideState) (entries : List Entry) (fs : List Fetched) (ident : List ℕ) → Since s listed → Evolves IsNoWrite listed got → Evolves IsNoWrite got t → entries ≡ map entry_of (fin.entries listed.content) → map (λ f. f.href) fs ≡ map (λ e. e.href) entries → AllByRecursion (WasFetched got t) fs → AllByRecursion (λ f. f.item.ident ≢ ident) fs → Lacks ident s t
-unread_is_lacked s listed got t entries fs ident start before during is same fetched others =
-    Lacks-extends start (unfetched_is_lacked listed got t fs ident before during (same ∙ (ap (λ (l : List Entry). map (λ (e : Entry). e.href) l) is ∙ entries_hrefs (fin.entries listed.content))) fetched others)
-
 -- where no edit from outside touches the ident, the side holds none of an ident that it lacks
 pub Lacks-none : {ident : List ℕ} {s m : SideState} → Evolves (IsUntouching ident) s m → Lacks ident s m → HasNone ident m
 Lacks-none untouched lacks href held stands text =
     let put = lacks.each href held text.0 stands text.1 text.2 in
     (kind_at (Edited href put.old (Some held)) untouched put.from put.is_true put.until).1 text
-
--- where no edit from outside touches the ident and nothing is written, what the side holds of it stood before
-pub held_before : {ident : List ℕ} {s t : SideState} → Evolves IsNoWrite s t → Evolves (IsUntouching ident) s t → (href : List ℕ) (held : Held) → fin.get t.content href ≡ Some held → IsTextOf ident held.text → fin.get s.content href ≡ Some held
-held_before {ident} {s} {t} quiet untouched href held stands text = elim (kept_or_put quiet href) [
-  | inl kept ↦ sym kept ∙ stands
-  | inr put ↦ absurd (let here : PutOutside s t href (Some held) = subst (λ (v : Option Held). PutOutside s t href v) stands put in (kind_at (Edited href here.old (Some held)) untouched here.from here.is_true here.until).1 text)
-]
 
 stays_one : (ident : List ℕ) (s : SideState) (e : StoreEvent) → IsAdding e → IsUntouching ident e → IsTrueEvent s e → (href : List ℕ) (held : Held) → fin.get s.content href ≡ Some held → IsTextOf ident held.text → fin.get (happens s e).content href ≡ Some held
 stays_one ident s (Edited h old new) adding untouched is_true href held stands text = elim (get-put_held s.content h href new) [
@@ -205,9 +166,3 @@ held_after {ident} {s} {t} adding untouched href held stands text =
 
 pub none_before : {ident : List ℕ} {s t : SideState} → Evolves IsAdding s t → Evolves (IsUntouching ident) s t → HasNone ident t → HasNone ident s
 none_before adding untouched none href held stands text = none href held (held_after adding untouched href held stands text) text
-
-pub no_write_is_adding : (e : StoreEvent) → IsNoWrite e → IsAdding e
-no_write_is_adding (Edited href old new) h = tt
-no_write_is_adding Toggled h = tt
-no_write_is_adding (Wrote href old new sent) h = absurd h
-no_write_is_adding (Read href text) h = tt

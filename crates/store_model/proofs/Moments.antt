@@ -1,5 +1,5 @@
 -- What was so at a moment of a run stays so when the run goes on.
-use Rattle.std.proofs.Common.{◌≡◌, inl, inr, ℕ, List, [], ◌∷◌, Option, Some, Result, Ok, Err, refl, sym, ap, ◌∙◌, rules}
+use Rattle.std.proofs.Common.{◌≡◌, inl, inr, ℕ, List, [], ◌∷◌, Some, Result, Ok, Err, refl, sym, ap, ◌∙◌, rules}
 use Rattle.outside.specs.Runs.{Leads}
 use Rattle.std.specs.Ordering.{nat_cmp}
 use Rattle.std.specs.Cmp.Lexicographic.{slice_cmp}
@@ -9,14 +9,13 @@ use Rattle.outside.proofs.Runs.{Runs-refl, Runs-trans, Runs-weaker, Runs-one, Ch
 use Rattle.store_model.specs.declared.event.Held.{Held}
 use Rattle.store_model.specs.declared.event.StoreEvent.{StoreEvent}
 use Rattle.store_model.specs.declared.event.StoreEvent.TheVariants.{Edited, Toggled, Wrote, Read}
-use Rattle.store_model.specs.StoreCalls.{StoreCause, Changes, IsGetOf, WasFetched, WasGot, StoodOrListed, IsListing, IsListed}
+use Rattle.store_model.specs.StoreCalls.{Changes, IsGetOf, WasFetched, WasGot, StoodOrListed, IsListing, IsListed}
 use Rattle.std.specs.declared.vec.Vec.{Vec}
 use Rattle.std.specs.declared.alloc.Global.{Global}
 use Rattle.store_model.specs.declared.store.Entry.{Entry}
 use Rattle.store_model.specs.declared.store.Fetched.{Fetched}
 use Rattle.std.specs.List.{AllByRecursion}
 use Rattle.store_model.specs.declared.store.StoreError.{StoreError}
-use Rattle.store_model.specs.declared.store.StoreError.TheVariants.{Fault, Moved, TooLong, TooMany, NotThere, Vanished, BadItem, NoMemory}
 use Rattle.store_model.specs.Sides.{Content, SideState, happens, IsTrueEvent, Evolves, IsOutside, IsNoWrite, Since, Sometime, WasRead, Writes, HoldsAt}
 
 -- ---- the lemmas of runs, for sides
@@ -68,17 +67,6 @@ Writes-evolves {Kind} {e} outside kind writes =
 pub get-inserted : (m : fin.FinMap (slice_cmp nat_cmp) Held) (k : List ℕ) (v : Held) → fin.get (fin.insert m k v) k ≡ Some v
 get-inserted m k v = grind (gets, rules)
 
--- right behind the write the side holds what was written
-pub Writes-held : {href : List ℕ} {old : Option Held} {held : Held} {sent : Option (List ℕ)} {s t : SideState} → Writes (Wrote href old (Some held) sent) s t → Sometime (HoldsAt href held) s t
-Writes-held {href} {old} {held} {sent} {s} {t} writes =
-    let e : StoreEvent = Wrote href old (Some held) sent in
-    record {
-      moment = happens writes.moment e;
-      from = Evolves-trans (Since-from_evolves writes.before) (Evolves-one writes.moment e tt writes.is_true);
-      until = Since-from_evolves writes.after;
-      was = get-inserted writes.moment.content href held;
-    }
-
 pub outside_is_no_write : (e : StoreEvent) → IsOutside e → IsNoWrite e
 outside_is_no_write (Edited href old new) h = tt
 outside_is_no_write Toggled h = tt
@@ -113,16 +101,6 @@ all_fetched_extends [] before all after = tt
 all_fetched_extends (f ∷ fs) before all after = (WasFetched-extends f before all.0 after, all_fetched_extends fs before all.1 after)
 
 pub ruleset moments = (Changes-refl, Changes-trans)
-
-pub StoreCause-weaker : {rose rose' : Type 0} (error : StoreError) → (rose → rose') → StoreCause rose error → StoreCause rose' error
-StoreCause-weaker Fault f cause = f cause
-StoreCause-weaker Moved f cause = tt
-StoreCause-weaker TooLong f cause = tt
-StoreCause-weaker TooMany f cause = tt
-StoreCause-weaker NotThere f cause = tt
-StoreCause-weaker (Vanished href) f cause = tt
-StoreCause-weaker (BadItem href error) f cause = cause
-StoreCause-weaker NoMemory f cause = tt
 
 -- edits from outside read nothing
 pub outside_keeps_reads : {s t : SideState} → Evolves IsOutside s t → t.reads ≡ s.reads

@@ -1,5 +1,5 @@
 -- A side: what a store holds and what has happened to it, and what a run of it leaves true (this project's own).
-use Rattle.std.specs.Prelude.{◌≡◌, ◌⊎◌, ℕ, Bool, not, List, [], ◌∷◌, ◌++◌, Option, Some, None}
+use Rattle.std.specs.Prelude.{◌≡◌, ℕ, Bool, not, List, [], ◌∷◌, ◌++◌, Option, Some, None}
 use Rattle.std.specs.Ordering.{nat_cmp}
 use Rattle.std.specs.Cmp.Lexicographic.{slice_cmp}
 use Rattle.std.specs.FinMap as fin
@@ -183,17 +183,3 @@ IsNotWriteOf ident (Wrote href old new sent) = IsNotOf ident old × IsNotOf iden
 IsNotWriteOf ident (Edited href old new) = Unit {0}
 IsNotWriteOf ident Toggled = Unit {0}
 IsNotWriteOf ident (Read href text) = Unit {0}
-
--- from s to t one text of the ident was written where nothing stood, and no other
-pub record WritesOne (ident : List ℕ) (s t : SideState) : Type 0 where
-  pub moment : SideState
-  pub href : List ℕ
-  pub held : Held
-  pub sent : List ℕ
-  pub before : Evolves (IsNotWriteOf ident) s moment
-  pub is_true : IsTrueEvent moment (Wrote href None (Some held) (Some sent))
-  pub text : IsTextOf ident sent
-  pub after : Evolves (IsNotWriteOf ident) (happens moment (Wrote href None (Some held) (Some sent))) t
-
-abbrev pub WritesAtMostOne : List ℕ → SideState → SideState → Type 0
-WritesAtMostOne ident s t = Evolves (IsNotWriteOf ident) s t ⊎ WritesOne ident s t

@@ -3,20 +3,19 @@ use Rattle.std.proofs.Common.{◌≡◌, inl, inr, ℕ, ◌<◌, ◌≤◌, ◌+
 use Rattle.std.specs.List.{AllByRecursion}
 use Rattle.std.proofs.lemmas.Bool.{false≢true}
 use Rattle.std.proofs.lemmas.List.{map-append}
-use Rattle.std.proofs.lemmas.List.Elements.{All-push, All-nil}
+use Rattle.std.proofs.lemmas.List.Elements.{All-push}
 use Rattle.item_text.specs.declared.fp.Fp.{Fp}
 use Rattle.status_keeper.specs.Idents.{Precedes, IsRising}
-use Rattle.status_keeper.specs.Rows.{row_idents}
 use Rattle.status_keeper.specs.declared.row.Row.{Row}
 use Rattle.sync_plan.specs.declared.placing.Found.{Found}
 use Rattle.sync_plan.specs.declared.placing.Placed.{Placed}
 use Rattle.sync_plan.specs.declared.rules.Rules.{Rules}
 use Rattle.sync_plan.specs.declared.seen.Planned.{Planned}
-use Rattle.sync_plan.specs.Placing.{ident_in, place_in, placed_idents}
+use Rattle.sync_plan.specs.Placing.{ident_in, place_in}
 use Rattle.sync_plan.specs.Plans.{first_of, planned_idents}
 use Rattle.sync_plan.specs.Merging.{row_ident, found_in, head_ident, least_text, head_of, rest_of, Within, IsListed, IsMergedFor, IsMerged}
 use Rattle.sync_plan.specs.Verdicts.{Versions, version_in, versions_in, step_of}
-use Rattle.sync_plan.proofs.Rising.{AtLeast, IsLeast, least_of_three, least_none, rising_push, rest_shorter, rest_no_longer, no_head, head_listed, Left, left_start, left_more, left_found, done_before, not_done, all_done}
+use Rattle.sync_plan.proofs.Rising.{AtLeast, IsLeast, least_of_three, least_none, rising_push, rest_shorter, rest_no_longer, no_head, head_listed, Left, left_more, left_found, done_before, not_done, all_done}
 
 -- ---- what is known of an option
 
@@ -55,16 +54,6 @@ pub record Merging (a b : List Placed) (rows : List Row) (rules : Rules) (rest_a
   pub left_rows : Left row_ident rows rest_rows (planned_idents steps)
   pub rising : IsRising (planned_idents steps)
   pub each : All (IsMergedFor a b rows rules) steps
-
-pub merging_start : (a b : List Placed) (rows : List Row) (rules : Rules) (steps : List Planned) → IsRising (placed_idents a) → IsRising (placed_idents b) → IsRising (row_idents rows) → steps ≡ [] → Merging a b rows rules a b rows steps
-merging_start a b rows rules steps up_a up_b up_rows none =
-    subst (λ (l : List Planned). Merging a b rows rules a b rows l) (sym none) (record {
-      left_a = left_start ident_in a up_a;
-      left_b = left_start ident_in b up_b;
-      left_rows = left_start row_ident rows up_rows;
-      rising = tt;
-      each = All-nil (IsMergedFor a b rows rules);
-    })
 
 -- the next ident, and what is taken of it
 pub record IsNext (rest_a rest_b : List Placed) (rest_rows : List Row) (rules : Rules) (n : List ℕ) (p : Planned) : Type 0 where

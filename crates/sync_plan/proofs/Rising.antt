@@ -276,9 +276,6 @@ pub record Left {X : Type 0} (f : X → List ℕ) (all rest : List X) (done : Li
   pub above : AllByRecursion (λ s. AllByRecursion (λ y. Precedes s y) (map f rest)) done
   pub same : (j : List ℕ) → (Within j done → ⊥) → first_of f j rest ≡ first_of f j all
 
-pub left_start : {X : Type 0} (f : X → List ℕ) (all : List X) → IsRising (map f all) → Left f all all []
-left_start f all up = record { rising = up; above = tt; same = λ j not. refl }
-
 pub left_more : {X : Type 0} (f : X → List ℕ) (n : List ℕ) (all rest : List X) (done : List (List ℕ)) → Left f all rest done → AtLeast n (head_ident f rest) → Left f all (rest_of f n rest) (done ++ n ∷ [])
 left_more f n all rest done left least = record {
   rising = rest_rising f n rest left.rising;

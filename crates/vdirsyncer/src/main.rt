@@ -1,7 +1,8 @@
 //! The program `vdirsyncer`: it makes the real devices and calls `run_words`.
 #![tactic(auto)]
 
-use outside::{NoMemory, RealOutfit, StdSink, StdSource};
+use outfits::RealOutfit;
+use outside::{NoMemory, StdSink, StdSource};
 use std::alloc::Global;
 use std::env::{self, VarError};
 use std::io::ErrorKind;

@@ -1,5 +1,5 @@
 -- A run of the program keeps the promise of its jobs, and where it is undisturbed over jobs that are ready it leaves each clean, or memory ran out.
-use Rattle.std.proofs.Common.{◌≡◌, ◌≢◌, ◌⊎◌, ◌&&◌, ◌||◌, not, if◌then◌else◌, Bool, inl, inr, ℕ, true, false, List, [], ◌∷◌, ◌++◌, length, Some, None, Result, Ok, Err, refl, sym, ◌∙◌, ap, subst, append-nil, arith}
+use Rattle.std.proofs.Common.{◌≡◌, ◌≢◌, ◌⊎◌, ◌&&◌, ◌||◌, not, if◌then◌else◌, Bool, inl, inr, ℕ, true, false, List, [], ◌∷◌, ◌++◌, length, Option, Some, None, Result, Ok, Err, refl, sym, ◌∙◌, ap, subst, append-nil, arith}
 use Rattle.outside.specs.Runs.{Leads, Runs}
 use Rattle.outside.specs.Files as folders
 use Rattle.outside.specs.Files.{FolderState}
@@ -15,7 +15,14 @@ use Rattle.sync_run.specs.Quiet.{IsQuiet, IsQuietEnd}
 use Rattle.sync_run.proofs.StillRunLemmas.{lines_still, end_still}
 use Rattle.sync_run.proofs.ReadyLemmas.{ready_end}
 use Rattle.cli_jobs.specs.declared.job.SyncJob.{SyncJob}
+use Rattle.outfits.specs.Children.{Children}
+use Rattle.cli_words.specs.declared.words.Name.{Name}
+use Rattle.config_model.specs.Reading.{config_of}
+use Rattle.config_model.specs.declared.config.Config.{Config}
 use Rattle.cli_jobs.specs.declared.refusal.Refusal.{Refusal}
+use Rattle.cli_jobs.specs.Answers.{lifted}
+use Rattle.cli_jobs.specs.Unfetched.{has_fetches}
+use Rattle.config_fetch.specs.Filling.{World, IsStill, world}
 use Rattle.vdirsyncer_cli.specs.declared.asked.Asked.{Asked}
 use Rattle.vdirsyncer_cli.specs.declared.asked.Wanted.{Wanted}
 use Rattle.vdirsyncer_cli.specs.declared.file_error.FileError.{FileError}
@@ -27,16 +34,17 @@ use Rattle.vdirsyncer_cli.specs.declared.job.Job.{Job}
 use Rattle.vdirsyncer_cli.specs.Jobs.{IsQuietJob, Ran, JobAt, span_in}
 use Rattle.vdirsyncer_cli.proofs.JobLaws.{job_in, keeps_promise}
 use Rattle.vdirsyncer_cli.specs.Places.{Places, place_at}
-use Rattle.vdirsyncer_cli.specs.Printing.{Prints}
+use Rattle.vdirsyncer_cli.specs.Printing.{Prints, PrintsTo}
 use Rattle.vdirsyncer_cli.specs.JobLists.{job_to_run, JobsRun, texts_of}
-use Rattle.vdirsyncer_cli.specs.Runs.{Ended, Did, WordsRun, ComesTo, comes_to, out_text, err_text, is_write_fault, status_of}
+use Rattle.vdirsyncer_cli.specs.Settling.{Filling, SettlesConfig, jobs_in}
+use Rattle.vdirsyncer_cli.specs.Runs.{Ended, Did, WordsRun, out_text, err_text, is_write_fault, status_of}
 use Rattle.vdirsyncer_cli.specs.Runs.Ended.{WrongWords, HelpAsked, WordsRefused, FileRefused, ConfigRefused, OutOfMemory, JobsEnded, JobsStarved}
 use Rattle.cli_text.specs.Texts.{report_text, ident_line, end_text}
 use Rattle.cli_text.specs.Exits.{is_starved_end, is_starved, is_synced_end, is_clean, exit_status}
 use Rattle.std.specs.List.{AllByRecursion, flat_map, list_all, list_any}
 use Rattle.outside.specs.StreamCalls.{AddsFront}
 use Rattle.vdirsyncer_cli.specs.Files.{folder_of, name_of}
-use Rattle.vdirsyncer_cli.specs.CleanRuns.{IsInside, AllKept, IsKept, IsQuietReading, IsCleanJob, AreCleanJobs, IsUndisturbed, AreLineless, AnswersBy, LeaveJobs, LeavesClean, PromisedRun, SinkIsStill, SinkIsSilent}
+use Rattle.vdirsyncer_cli.specs.CleanRuns.{IsInside, AllKept, IsKept, IsQuietReading, GivesBy, GivesJobs, IsCleanJob, AreCleanJobs, IsUndisturbed, AreLineless, AnswersBy, LeaveJobs, LeavesClean, PromisedRun, SinkIsStill, SinkIsSilent}
 
 folder_keeps : KeepsEvents folders.happens
 folder_keeps =
@@ -95,13 +103,17 @@ not_refused old now tells wanted error quiet read not_memory = by error not_memo
     by file_error.Fault not no_fault says = no_fault refl
     by file_error.NoMemory not no_fault says = not refl
 
--- what it comes to is its jobs
-comes_to_its_jobs : (old now : Places) (tells : List ℕ → Type 0) (what : Asked) (wanted : Wanted) (answer : Result (List SyncJob) Refusal) → (quiet : IsQuietReading old now tells wanted) → ComesTo old now tells what wanted answer → answer ≡ Ok quiet.jobs
-comes_to_its_jobs old now tells what wanted answer quiet comes =
-    let file = reads_at old now tells wanted (Ok comes.bytes) quiet comes.reads.read in
-    let same : Some comes.bytes ≡ Some quiet.bytes = sym file.stood ∙ quiet.stands in
-    let one : comes.bytes ≡ quiet.bytes = cc in
-    sym comes.comes ∙ (ap (comes_to wanted) one ∙ quiet.comes)
+-- a configuration that comes to jobs isn't refused
+abbrev pub KeepsPlain : {W : Type 0} → Filling W → Type 0
+KeepsPlain {W} Fills = (names : List Name) (home : Option (List ℕ)) (s t : W) (config : Config) (filled : Result Config Refusal) → has_fetches names config ≡ false → Fills names home s t config filled → filled ≡ Ok config
+
+comes_to_its_jobs : {W : Type 0} (IsStill : W → W → Type 0) (Fills : Filling W) (wanted : Wanted) (s t : W) (config : Result Config Refusal) (answer : Result (List SyncJob) Refusal) (settles : SettlesConfig IsStill Fills wanted s t config answer) → KeepsPlain Fills → GivesJobs IsStill Fills wanted s t config answer settles → (jobs : List SyncJob) × (answer ≡ Ok jobs)
+comes_to_its_jobs IsStill Fills wanted s t (Err r) answer settles plain gives = absurd gives
+comes_to_its_jobs IsStill Fills wanted s t (Ok config) answer settles plain gives = by (has_fetches wanted.names config) refl gives
+  where
+    by : (has : Bool) → has_fetches wanted.names config ≡ has → GivesBy has wanted config settles.0 → (jobs : List SyncJob) × (answer ≡ Ok jobs)
+    by true is gives = (gives.0, settles.2 ∙ gives.1)
+    by false is gives = (gives.0, settles.2 ∙ (ap (jobs_in wanted) (plain wanted.names wanted.home s t config settles.0 is settles.1) ∙ gives.1))
 
 front_of_nothing : (old new text : List ℕ) → text ≡ [] → AddsFront old new text → new ≡ old
 front_of_nothing old new text none adds = by adds.front (sym adds.is_front ∙ none) adds.adds
@@ -242,26 +254,32 @@ all_kept places tells force old new (job ∷ jobs) [] ran = tt
 all_kept places tells force old new [] (report ∷ reports) ran = tt
 all_kept places tells force old new (job ∷ jobs) (report ∷ reports) ran = (keeps_promise (places old) (places ran.0) (tells old) (tells ran.0) (job_to_run force job) report ran.1, all_kept places tells force ran.0 new jobs reports ran.2)
 
-kept_run : {O : Type 0} (places : O → Places) (tells : O → List ℕ → Type 0) (old new : O) (what : Asked) (ended : Ended) (did : Did places tells old new what ended) → IsKept places tells old new what ended did
-kept_run places tells old new what WrongWords did = tt
-kept_run places tells old new what HelpAsked did = tt
-kept_run places tells old new what (WordsRefused line) did = tt
-kept_run places tells old new what (FileRefused wanted e) did = tt
-kept_run places tells old new what (ConfigRefused wanted r) did = tt
-kept_run places tells old new what OutOfMemory did = tt
-kept_run places tells old new what (JobsEnded wanted jobs reports) did = all_kept places tells wanted.force_delete (did.0).between new jobs reports (did.0).ran
-kept_run places tells old new what (JobsStarved wanted jobs reports) did = all_kept places tells wanted.force_delete did.between new jobs reports did.ran
+kept_run : {O I E : Type 0} (places : O → Places) (tells : O → List ℕ → Type 0) (children : O → Children) (tells_child : O → Type 0) (Fills : Filling (World O I E)) (old settled : World O I E) (new : O) (what : Asked) (ended : Ended) (did : Did places tells children tells_child Fills old settled new what ended) → IsKept places tells children tells_child Fills old settled new what ended did
+kept_run places tells children tells_child Fills old settled new what WrongWords did = tt
+kept_run places tells children tells_child Fills old settled new what HelpAsked did = tt
+kept_run places tells children tells_child Fills old settled new what (WordsRefused line) did = tt
+kept_run places tells children tells_child Fills old settled new what (FileRefused wanted e) did = tt
+kept_run places tells children tells_child Fills old settled new what (ConfigRefused wanted r) did = tt
+kept_run places tells children tells_child Fills old settled new what OutOfMemory did = tt
+kept_run places tells children tells_child Fills old settled new what (JobsEnded wanted jobs reports) did = all_kept places tells wanted.force_delete settled.outfit new jobs reports (did.0).ran
+kept_run places tells children tells_child Fills old settled new what (JobsStarved wanted jobs reports) did = all_kept places tells wanted.force_delete settled.outfit new jobs reports did.ran
 
-pub promised_run : {O S E : Type 0} (count_s : S → ℕ) (tells_s : S → Type 0) (held_s : S → List ℕ) (out out' : S) (count_e : E → ℕ) (tells_e : E → Type 0) (held_e : E → List ℕ) (err err' : E) (places : O → Places) (tells : O → List ℕ → Type 0) (old new : O) (what : Asked) (result : ℕ) →
-    WordsRun places tells old new what (Prints count_s tells_s held_s out out') (Prints count_e tells_e held_e err err') result →
-    PromisedRun places tells old new what (Prints count_s tells_s held_s out out') (Prints count_e tells_e held_e err err') (SinkIsStill count_s out out' × SinkIsStill count_e err err') (SinkIsSilent tells_s held_s out out' × SinkIsSilent tells_e held_e err err') result
-promised_run {O} {S} {E} count_s tells_s held_s out out' count_e tells_e held_e err err' places tells old new what result run =
+pub promised_run : {O S I E : Type 0} (count_s : S → ℕ) (tells_s : S → Type 0) (held_s : S → List ℕ) (out out' : S) (count_e : E → ℕ) (tells_e : E → Type 0) (held_e : E → List ℕ) (err' : E) (places : O → Places) (tells : O → List ℕ → Type 0) (children : O → Children) (tells_child : O → Type 0) (Fills : Filling (World O I E)) (old : World O I E) (new : O) (input : I) (what : Asked) (result : ℕ) → KeepsPlain Fills →
+    WordsRun places tells children tells_child Fills old new input what (Prints count_s tells_s held_s out out') (PrintsTo count_e tells_e held_e err') result →
+    PromisedRun places tells children tells_child Fills old new input what (Prints count_s tells_s held_s out out') (PrintsTo count_e tells_e held_e err') (λ err. SinkIsStill count_s out out' × SinkIsStill count_e err err') (λ err. SinkIsSilent tells_s held_s out out' × SinkIsSilent tells_e held_e err err') result
+promised_run {O} {S} {I} {E} count_s tells_s held_s out out' count_e tells_e held_e err' places tells children tells_child Fills old new input what result plain run =
     record {
       run = run;
-      kept = kept_run places tells old new what run.ended run.did;
+      kept = kept_run places tells children tells_child Fills old run.settled new what run.ended run.did;
       complete = λ still quiet. at run.ended run.did run.out_cut run.err_cut run.printed run.told run.status still quiet;
     }
   where
+    settled : World O I E
+    settled = run.settled
+
+    err : E
+    err = settled.err
+
     Silent : Type 0
     Silent = SinkIsSilent tells_s held_s out out' × SinkIsSilent tells_e held_e err err'
 
@@ -279,17 +297,18 @@ promised_run {O} {S} {E} count_s tells_s held_s out out' count_e tells_e held_e 
         no_fault : is_write_fault out_cut ≡ false
         no_fault = no_fault_by out_cut (no_write_fault count_s tells_s held_s out out' (texts_of jobs reports) out_cut still_s printed)
 
-    at : (ended : Ended) (did : Did places tells old new what ended) (out_cut err_cut : Cut) → Prints count_s tells_s held_s out out' (out_text ended) out_cut → Prints count_e tells_e held_e err err' (err_text ended) err_cut → result ≡ status_of ended out_cut → SinkIsStill count_s out out' × SinkIsStill count_e err err' → IsUndisturbed places tells old new what ended did →
-        (result ≡ 3) ⊎ LeavesClean places tells old new what ended did result Silent
+    at : (ended : Ended) (did : Did places tells children tells_child Fills old settled new what ended) (out_cut err_cut : Cut) → Prints count_s tells_s held_s out out' (out_text ended) out_cut → Prints count_e tells_e held_e err err' (err_text ended) err_cut → result ≡ status_of ended out_cut → SinkIsStill count_s out out' × SinkIsStill count_e err err' → IsUndisturbed places tells children tells_child Fills old settled new what ended did →
+        (result ≡ 3) ⊎ LeavesClean places tells children tells_child Fills old settled new what ended did result Silent
     at WrongWords did out_cut err_cut printed told status still quiet = absurd quiet
     at HelpAsked did out_cut err_cut printed told status still quiet = absurd quiet
     at (WordsRefused line) did out_cut err_cut printed told status still quiet = absurd quiet
-    at (FileRefused wanted e) did out_cut err_cut printed told status still quiet = absurd (not_refused (places old) (places new) (tells old) wanted e quiet (did.0).read did.1)
+    at (FileRefused wanted e) did out_cut err_cut printed told status still quiet = absurd (not_refused (places old.outfit) (places new) (tells old.outfit) wanted e quiet (did.0).read did.1)
     at (ConfigRefused wanted r) did out_cut err_cut printed told status still quiet =
-        let clash : Err r ≡ Ok quiet.jobs = comes_to_its_jobs (places old) (places new) (tells old) what wanted (Err r) quiet did.0 in absurd (cc)
+        let comes = comes_to_its_jobs (IsStill children) Fills wanted (world (did.0).read old.input old.err) settled (lifted (config_of (did.0).bytes)) (Err r) (did.0).settles plain quiet.1 in
+        let clash : Err r ≡ Ok comes.0 = comes.1 in absurd (cc)
     at OutOfMemory did out_cut err_cut printed told status still quiet = inl status
     at (JobsEnded wanted jobs reports) did out_cut err_cut printed told status still quiet =
-        elim (jobs_are_clean places tells wanted.force_delete (did.0).between new jobs reports (did.0).ran quiet.1) [
+        elim (jobs_are_clean places tells wanted.force_delete settled.outfit new jobs reports (did.0).ran quiet.1) [
           | inl starved ↦ inl (status ∙ exits reports true (list_all is_clean reports) (is_write_fault out_cut) starved refl)
           | inr clean ↦ inr (answers jobs reports out_cut err_cut printed told status still.0 still.1 clean.synced, clean.leave)
         ]

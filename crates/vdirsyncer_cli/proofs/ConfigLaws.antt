@@ -1,6 +1,6 @@
 -- The file of the configuration was read from a place that was handed out and put back.
 use Rattle.std.proofs.Common.{◌≡◌, ◌≢◌, ◌≤◌, ◌⊎◌, inl, inr, ℕ, List, Option, Some, None, Result, Err, ap, sym, ◌∙◌, subst, arith}
-use Rattle.outside.specs.Places.{Place, ChangesOnly, IsSame, IsWhole}
+use Rattle.outfits.specs.Places.{Place, ChangesOnly, IsSame, IsWhole}
 use Rattle.outside.proofs.Runs.{Runs-refl}
 use Rattle.vdirsyncer_cli.specs.declared.file_error.FileError.{FileError}
 use Rattle.vdirsyncer_cli.specs.declared.file_error.FileError.TheVariants as error

@@ -1,7 +1,7 @@
 -- From one job over its folders to the same job over its places.
 use Rattle.std.proofs.Common.{◌≡◌, inl, inr, ℕ, Bool, true, false, List, ap, sym, ◌∙◌, subst}
 use Rattle.outside.specs.Files.{FolderState}
-use Rattle.outside.specs.Places.{Place, place_by}
+use Rattle.outfits.specs.Places.{Place, place_by}
 use Rattle.store_model.specs.Sides.{SideState}
 use Rattle.vdir_store.specs.Names.{SpeaksOf}
 use Rattle.vdir_store.specs.Vdir.{side_of}

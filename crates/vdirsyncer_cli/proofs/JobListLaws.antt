@@ -4,7 +4,7 @@ use Rattle.std.proofs.Math.ListN.{drop_of_length-le}
 use Rattle.std.specs.List.{AllByRecursion}
 use Rattle.config_model.proofs.Rests.{rest_is}
 use Rattle.outside.specs.StreamCalls.{AddsFront}
-use Rattle.outside.specs.Places.{IsSame, StayTold}
+use Rattle.outfits.specs.Places.{IsSame, StayTold}
 use Rattle.sync_plan.specs.declared.report.Report.{Report}
 use Rattle.cli_jobs.specs.declared.job.SyncJob.{SyncJob}
 use Rattle.cli_text.specs.Texts.{report_text}

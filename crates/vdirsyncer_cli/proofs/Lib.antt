@@ -8,3 +8,4 @@ pub mod ConfigLaws
 pub mod JobListLaws
 pub mod WordsLaws
 pub mod CleanLaws
+pub mod SettlingLaws

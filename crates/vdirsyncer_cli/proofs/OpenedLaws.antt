@@ -1,7 +1,7 @@
 -- Three places were handed out, and put back after a job.
 use Rattle.std.proofs.Common.{◌≡◌, ◌≢◌, ◌⊎◌, inl, inr, ℕ, List, Option, Some, None, ap, sym, ◌∙◌}
 use Rattle.std.specs.Option.{unwrap_or}
-use Rattle.outside.specs.Places.{Place, IsWhole}
+use Rattle.outfits.specs.Places.{Place, IsWhole}
 use Rattle.vdirsyncer_cli.specs.Places.{Places, place_at, nowhere}
 use Rattle.vdirsyncer_cli.specs.declared.opened.Opened.{Opened}
 use Rattle.vdirsyncer_cli.specs.Opened.{HandsOut, TakesBack}

@@ -2,7 +2,7 @@
 use Rattle.std.proofs.Common.{◌≡◌, ◌≢◌, ◌⊎◌, inl, inr, ℕ, List, Option, Some, None, Bool, true, false, refl, ap, sym, ◌∙◌, subst, arith}
 use Rattle.std.specs.Str.{bytes_eq}
 use Rattle.std.proofs.lemmas.Slice.Eq.{bytes_eq-Decides}
-use Rattle.outside.specs.Places.{Place, ChangesOnly, IsSame, IsWhole, StayTold, GiveTold}
+use Rattle.outfits.specs.Places.{Place, ChangesOnly, IsSame, IsWhole, StayTold, GiveTold}
 use Rattle.vdirsyncer_cli.specs.Places.{Places}
 
 -- two texts are equal or not

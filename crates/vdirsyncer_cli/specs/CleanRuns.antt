@@ -1,5 +1,5 @@
 -- What a run of the program promises of its jobs, and when it is undisturbed over jobs that are ready, and what it then leaves (this project's own).
-use Rattle.std.specs.Prelude.{◌≡◌, ◌≢◌, ◌≤◌, ◌⊎◌, ℕ, Bool, List, [], ◌∷◌, length, Some, Ok}
+use Rattle.std.specs.Prelude.{◌≡◌, ◌≢◌, ◌≤◌, ◌⊎◌, ℕ, Bool, true, false, List, [], ◌∷◌, length, Some, Result, Ok, Err}
 use Rattle.std.specs.List.{AllByRecursion}
 use Rattle.std.specs.FinMap as fin
 use Rattle.outside.specs.Causes.{Rose}
@@ -12,7 +12,15 @@ use Rattle.sync_plan.specs.declared.report.Report.{Report}
 use Rattle.sync_plan.specs.declared.report.JobEnd.TheVariants.{NotCommitted}
 use Rattle.sync_run.specs.Promise.{IsPromised}
 use Rattle.sync_run.specs.Ready.{IsReady, EndsClean}
+use Rattle.outfits.specs.Children.{Children}
+use Rattle.config_model.specs.Reading.{config_of}
+use Rattle.config_model.specs.declared.config.Config.{Config}
 use Rattle.cli_jobs.specs.declared.job.SyncJob.{SyncJob}
+use Rattle.cli_jobs.specs.declared.refusal.Refusal.{Refusal}
+use Rattle.cli_jobs.specs.Answers.{lifted}
+use Rattle.cli_jobs.specs.Jobs.{chosen_jobs}
+use Rattle.cli_jobs.specs.Unfetched.{has_fetches}
+use Rattle.config_fetch.specs.Filling.{World, IsStill, world}
 use Rattle.vdirsyncer_cli.specs.declared.asked.Asked.{Asked}
 use Rattle.vdirsyncer_cli.specs.declared.asked.Wanted.{Wanted}
 use Rattle.vdirsyncer_cli.specs.declared.printing.Cut.{Cut}
@@ -21,7 +29,8 @@ use Rattle.vdirsyncer_cli.specs.ConfigRead.{config_limit}
 use Rattle.vdirsyncer_cli.specs.Jobs.{IsTold, IsQuietJob, span_in}
 use Rattle.vdirsyncer_cli.specs.Places.{Places, place_at}
 use Rattle.vdirsyncer_cli.specs.JobLists.{job_to_run, JobsRun}
-use Rattle.vdirsyncer_cli.specs.Runs.{Ended, Did, WordsRun, comes_to}
+use Rattle.vdirsyncer_cli.specs.Settling.{Filling, SettlesConfig, jobs_in}
+use Rattle.vdirsyncer_cli.specs.Runs.{Ended, Did, WordsRun}
 use Rattle.vdirsyncer_cli.specs.Runs.Ended.{WrongWords, HelpAsked, WordsRefused, FileRefused, ConfigRefused, OutOfMemory, JobsEnded, JobsStarved}
 use Rattle.vdirsyncer_cli.specs.SamePlace.{IsSamePlace}
 use Rattle.vdirsyncer_cli.specs.Files.{folder_of, name_of}
@@ -38,15 +47,15 @@ AllKept places tells force old new (job ∷ jobs) (report ∷ reports) ran =
     KeepsPromise (places old) (places ran.0) (tells old) (job_to_run force job) × AllKept places tells force ran.0 new jobs reports ran.2
 
 -- the jobs of the run keep it
-abbrev pub IsKept : {O : Type 0} (places : O → Places) (tells : O → List ℕ → Type 0) (old new : O) (what : Asked) (ended : Ended) → Did places tells old new what ended → Type 0
-IsKept places tells old new what WrongWords did = Unit {0}
-IsKept places tells old new what HelpAsked did = Unit {0}
-IsKept places tells old new what (WordsRefused line) did = Unit {0}
-IsKept places tells old new what (FileRefused wanted e) did = Unit {0}
-IsKept places tells old new what (ConfigRefused wanted r) did = Unit {0}
-IsKept places tells old new what OutOfMemory did = Unit {0}
-IsKept places tells old new what (JobsEnded wanted jobs reports) did = AllKept places tells wanted.force_delete (did.0).between new jobs reports (did.0).ran
-IsKept places tells old new what (JobsStarved wanted jobs reports) did = AllKept places tells wanted.force_delete did.between new jobs reports did.ran
+abbrev pub IsKept : {O I E : Type 0} (places : O → Places) (tells : O → List ℕ → Type 0) (children : O → Children) (tells_child : O → Type 0) (Fills : Filling (World O I E)) (old settled : World O I E) (new : O) (what : Asked) (ended : Ended) → Did places tells children tells_child Fills old settled new what ended → Type 0
+IsKept places tells children tells_child Fills old settled new what WrongWords did = Unit {0}
+IsKept places tells children tells_child Fills old settled new what HelpAsked did = Unit {0}
+IsKept places tells children tells_child Fills old settled new what (WordsRefused line) did = Unit {0}
+IsKept places tells children tells_child Fills old settled new what (FileRefused wanted e) did = Unit {0}
+IsKept places tells children tells_child Fills old settled new what (ConfigRefused wanted r) did = Unit {0}
+IsKept places tells children tells_child Fills old settled new what OutOfMemory did = Unit {0}
+IsKept places tells children tells_child Fills old settled new what (JobsEnded wanted jobs reports) did = AllKept places tells wanted.force_delete settled.outfit new jobs reports (did.0).ran
+IsKept places tells children tells_child Fills old settled new what (JobsStarved wanted jobs reports) did = AllKept places tells wanted.force_delete settled.outfit new jobs reports did.ran
 
 -- no edit from outside
 abbrev pub IsInside : FolderEvent → Type 0
@@ -56,7 +65,7 @@ IsInside (folder_event.Wrote name old new) = Unit {0}
 IsInside (folder_event.Read name bytes) = Unit {0}
 IsInside folder_event.Made = Unit {0}
 
--- the file of the configuration stands there and comes to jobs, and nothing disturbs its reading, which ends at these places
+-- the file of the configuration stands there, and nothing disturbs its reading, which ends at these places
 pub record IsQuietReading (old now : Places) (tells : List ℕ → Type 0) (wanted : Wanted) : Type 0 where
   pub told : tells (folder_of wanted.file)
   pub still : Rose (place_at old (folder_of wanted.file)).faults (place_at now (folder_of wanted.file)).faults → ⊥
@@ -64,8 +73,16 @@ pub record IsQuietReading (old now : Places) (tells : List ℕ → Type 0) (want
   pub bytes : List ℕ
   pub stands : fin.get ((place_at old (folder_of wanted.file)).state).files (name_of wanted.file) ≡ Some bytes
   pub fits : length bytes ≤ config_limit
-  pub jobs : List SyncJob
-  pub comes : comes_to wanted bytes ≡ Ok jobs
+
+-- a configuration comes to jobs: as it stands, where it has no texts to fetch; else with those that were fetched, each of which is a value
+abbrev pub GivesBy : Bool → Wanted → Config → Result Config Refusal → Type 0
+GivesBy false wanted config filled = (jobs : List SyncJob) × (chosen_jobs wanted.names wanted.home config ≡ Ok jobs)
+GivesBy true wanted config filled = (jobs : List SyncJob) × (jobs_in wanted filled ≡ Ok jobs)
+
+-- the bytes are a configuration that comes to jobs
+abbrev pub GivesJobs : {W : Type 0} (IsStill : W → W → Type 0) (Fills : Filling W) (wanted : Wanted) (s t : W) (config : Result Config Refusal) (answer : Result (List SyncJob) Refusal) → SettlesConfig IsStill Fills wanted s t config answer → Type 0
+GivesJobs IsStill Fills wanted s t (Err r) answer settles = ⊥
+GivesJobs IsStill Fills wanted s t (Ok config) answer settles = GivesBy (has_fetches wanted.names config) wanted config settles.0
 
 -- a job over three places that differ is ready, its run is quiet, and the text of its rows is within the limit of a status
 pub record IsCleanJob (old new : Places) (tells : List ℕ → Type 0) (job : Job) (report : Report) : Type 0 where
@@ -84,16 +101,16 @@ AreCleanJobs places tells force old new (job ∷ jobs) (report ∷ reports) ran 
     IsCleanJob (places old) (places ran.0) (tells old) (job_to_run force job) report × AreCleanJobs places tells force ran.0 new jobs reports ran.2
 
 -- valid words, a configuration that comes to jobs, and those ready, all of them undisturbed
-abbrev pub IsUndisturbed : {O : Type 0} (places : O → Places) (tells : O → List ℕ → Type 0) (old new : O) (what : Asked) (ended : Ended) → Did places tells old new what ended → Type 0
-IsUndisturbed places tells old new what WrongWords did = ⊥
-IsUndisturbed places tells old new what HelpAsked did = ⊥
-IsUndisturbed places tells old new what (WordsRefused line) did = ⊥
-IsUndisturbed places tells old new what (FileRefused wanted e) did = IsQuietReading (places old) (places new) (tells old) wanted
-IsUndisturbed places tells old new what (ConfigRefused wanted r) did = IsQuietReading (places old) (places new) (tells old) wanted
-IsUndisturbed places tells old new what OutOfMemory did = Unit {0}
-IsUndisturbed places tells old new what (JobsEnded wanted jobs reports) did =
-    IsQuietReading (places old) (places (did.0).between) (tells old) wanted × AreCleanJobs places tells wanted.force_delete (did.0).between new jobs reports (did.0).ran
-IsUndisturbed places tells old new what (JobsStarved wanted jobs reports) did = Unit {0}
+abbrev pub IsUndisturbed : {O I E : Type 0} (places : O → Places) (tells : O → List ℕ → Type 0) (children : O → Children) (tells_child : O → Type 0) (Fills : Filling (World O I E)) (old settled : World O I E) (new : O) (what : Asked) (ended : Ended) → Did places tells children tells_child Fills old settled new what ended → Type 0
+IsUndisturbed places tells children tells_child Fills old settled new what WrongWords did = ⊥
+IsUndisturbed places tells children tells_child Fills old settled new what HelpAsked did = ⊥
+IsUndisturbed places tells children tells_child Fills old settled new what (WordsRefused line) did = ⊥
+IsUndisturbed places tells children tells_child Fills old settled new what (FileRefused wanted e) did = IsQuietReading (places old.outfit) (places new) (tells old.outfit) wanted
+IsUndisturbed places tells children tells_child Fills old settled new what (ConfigRefused wanted r) did = IsQuietReading (places old.outfit) (places new) (tells old.outfit) wanted × GivesJobs (IsStill children) Fills wanted (world (did.0).read old.input old.err) settled (lifted (config_of (did.0).bytes)) (Err r) (did.0).settles
+IsUndisturbed places tells children tells_child Fills old settled new what OutOfMemory did = Unit {0}
+IsUndisturbed places tells children tells_child Fills old settled new what (JobsEnded wanted jobs reports) did =
+    IsQuietReading (places old.outfit) (places settled.outfit) (tells old.outfit) wanted × AreCleanJobs places tells wanted.force_delete settled.outfit new jobs reports (did.0).ran
+IsUndisturbed places tells children tells_child Fills old settled new what (JobsStarved wanted jobs reports) did = Unit {0}
 
 -- no report has a line
 abbrev pub AreLineless : List Report → Type 0
@@ -114,22 +131,22 @@ LeaveJobs places tells force old new (job ∷ jobs) (report ∷ reports) ran =
     LeavesJob (places old) (places ran.0) (job_to_run force job) report × LeaveJobs places tells force ran.0 new jobs reports ran.2
 
 -- the jobs that the configuration comes to ran, each once, and each is clean
-abbrev pub LeavesClean : {O : Type 0} (places : O → Places) (tells : O → List ℕ → Type 0) (old new : O) (what : Asked) (ended : Ended) → Did places tells old new what ended → ℕ → Type 0 → Type 0
-LeavesClean places tells old new what WrongWords did result AreSilent = ⊥
-LeavesClean places tells old new what HelpAsked did result AreSilent = ⊥
-LeavesClean places tells old new what (WordsRefused line) did result AreSilent = ⊥
-LeavesClean places tells old new what (FileRefused wanted e) did result AreSilent = ⊥
-LeavesClean places tells old new what (ConfigRefused wanted r) did result AreSilent = ⊥
-LeavesClean places tells old new what OutOfMemory did result AreSilent = ⊥
-LeavesClean places tells old new what (JobsEnded wanted jobs reports) did result AreSilent =
-    AnswersBy reports result AreSilent × LeaveJobs places tells wanted.force_delete (did.0).between new jobs reports (did.0).ran
-LeavesClean places tells old new what (JobsStarved wanted jobs reports) did result AreSilent = ⊥
+abbrev pub LeavesClean : {O I E : Type 0} (places : O → Places) (tells : O → List ℕ → Type 0) (children : O → Children) (tells_child : O → Type 0) (Fills : Filling (World O I E)) (old settled : World O I E) (new : O) (what : Asked) (ended : Ended) → Did places tells children tells_child Fills old settled new what ended → ℕ → Type 0 → Type 0
+LeavesClean places tells children tells_child Fills old settled new what WrongWords did result AreSilent = ⊥
+LeavesClean places tells children tells_child Fills old settled new what HelpAsked did result AreSilent = ⊥
+LeavesClean places tells children tells_child Fills old settled new what (WordsRefused line) did result AreSilent = ⊥
+LeavesClean places tells children tells_child Fills old settled new what (FileRefused wanted e) did result AreSilent = ⊥
+LeavesClean places tells children tells_child Fills old settled new what (ConfigRefused wanted r) did result AreSilent = ⊥
+LeavesClean places tells children tells_child Fills old settled new what OutOfMemory did result AreSilent = ⊥
+LeavesClean places tells children tells_child Fills old settled new what (JobsEnded wanted jobs reports) did result AreSilent =
+    AnswersBy reports result AreSilent × LeaveJobs places tells wanted.force_delete settled.outfit new jobs reports (did.0).ran
+LeavesClean places tells children tells_child Fills old settled new what (JobsStarved wanted jobs reports) did result AreSilent = ⊥
 
--- one run of the program: each job keeps the promise; and where the run is undisturbed and the sinks are still, it leaves each job clean, or it answers 3
-pub record PromisedRun {O : Type 0} (places : O → Places) (tells : O → List ℕ → Type 0) (old new : O) (what : Asked) (PrintsOut PrintsErr : List ℕ → Cut → Type 0) (AreStill AreSilent : Type 0) (result : ℕ) : Type 0 where
-  pub run : WordsRun places tells old new what PrintsOut PrintsErr result
-  pub kept : IsKept places tells old new what run.ended run.did
-  pub complete : AreStill → IsUndisturbed places tells old new what run.ended run.did → (result ≡ 3) ⊎ LeavesClean places tells old new what run.ended run.did result AreSilent
+-- one run of the program: each job keeps the promise; and where the run is undisturbed and the sinks are still behind the fetches, it leaves each job clean, or it answers 3
+pub record PromisedRun {O I E : Type 0} (places : O → Places) (tells : O → List ℕ → Type 0) (children : O → Children) (tells_child : O → Type 0) (Fills : Filling (World O I E)) (old : World O I E) (new : O) (input : I) (what : Asked) (PrintsOut : List ℕ → Cut → Type 0) (PrintsErr : E → List ℕ → Cut → Type 0) (AreStill AreSilent : E → Type 0) (result : ℕ) : Type 0 where
+  pub run : WordsRun places tells children tells_child Fills old new input what PrintsOut PrintsErr result
+  pub kept : IsKept places tells children tells_child Fills old run.settled new what run.ended run.did
+  pub complete : AreStill (run.settled).err → IsUndisturbed places tells children tells_child Fills old run.settled new what run.ended run.did → (result ≡ 3) ⊎ LeavesClean places tells children tells_child Fills old run.settled new what run.ended run.did result (AreSilent (run.settled).err)
 
 -- no count of the sinks rose
 abbrev pub SinkIsStill : {S : Type 0} → (S → ℕ) → S → S → Type 0

@@ -5,7 +5,7 @@ use Rattle.outside.specs.Causes.{Rose}
 use Rattle.outside.specs.Files.{FolderState, happens}
 use Rattle.outside.specs.FolderCalls.{AfterEdits}
 use Rattle.outside.specs.declared.folder.FolderEvent.TheVariants.{Read}
-use Rattle.outside.specs.Places.{Place}
+use Rattle.outfits.specs.Places.{Place}
 use Rattle.vdirsyncer_cli.specs.declared.file_error.FileError.{FileError}
 use Rattle.vdirsyncer_cli.specs.declared.file_error.FileError.TheVariants.{IsNotThere, Fault, TooLong, NoMemory}
 use Rattle.vdirsyncer_cli.specs.Places.{Places, place_at}

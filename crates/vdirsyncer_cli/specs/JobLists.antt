@@ -1,6 +1,6 @@
 -- Jobs one after another: what they do to the places, and what is printed of them (this project's own).
 use Rattle.std.specs.Prelude.{◌≡◌, ◌≢◌, ℕ, Bool, true, false, List, [], ◌∷◌, ◌++◌, length}
-use Rattle.outside.specs.Places.{IsSame, StayTold}
+use Rattle.outfits.specs.Places.{IsSame, StayTold}
 use Rattle.vdir_store.specs.Names.{is_ending}
 use Rattle.sync_plan.specs.Verdicts.{IsWritable}
 use Rattle.sync_plan.specs.declared.report.Report.{Report}

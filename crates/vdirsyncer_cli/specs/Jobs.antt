@@ -2,7 +2,7 @@
 use Rattle.std.specs.Prelude.{◌≡◌, ◌≢◌, ◌⊎◌, ℕ, false, List, []}
 use Rattle.outside.specs.Causes.{Rose}
 use Rattle.outside.specs.Files.{FolderState}
-use Rattle.outside.specs.Places.{Place, place_by, IsSame, StayTold}
+use Rattle.outfits.specs.Places.{Place, place_by, IsSame, StayTold}
 use Rattle.store_model.specs.Sides.{WasEdited}
 use Rattle.vdir_store.specs.Names.{SpeaksOf}
 use Rattle.vdir_store.specs.Vdir.{side_of}

@@ -8,5 +8,6 @@ pub mod Asked
 pub mod Jobs
 pub mod JobLists
 pub mod ConfigRead
+pub mod Settling
 pub mod Runs
 pub mod CleanRuns

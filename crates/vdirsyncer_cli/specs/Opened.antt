@@ -1,6 +1,6 @@
 -- The three places of a job, handed out and given back (this project's own).
 use Rattle.std.specs.Prelude.{◌≡◌, ◌≢◌, ℕ, List, Some, None}
-use Rattle.outside.specs.Places.{Place}
+use Rattle.outfits.specs.Places.{Place}
 use Rattle.vdirsyncer_cli.specs.Places.{Places}
 use Rattle.vdirsyncer_cli.specs.declared.opened.Opened.{Opened}
 

@@ -1,7 +1,7 @@
 -- The places of an outfit, and what stands at one of them (this project's own).
 use Rattle.std.specs.Prelude.{ℕ, false, List, [], Option, unwrap_or}
 use Rattle.std.specs.FinMap as fin
-use Rattle.outside.specs.Places.{Place}
+use Rattle.outfits.specs.Places.{Place}
 
 -- what stands at each location: nothing where the place is out
 abbrev pub Places : Type 0

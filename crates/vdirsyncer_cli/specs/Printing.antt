@@ -14,3 +14,7 @@ abbrev pub Prints : {S : Type 0} → (S → ℕ) → (S → Type 0) → (S → L
 Prints count tells held old new text Whole = (count old ≤ count new) × Holds tells held old new (λ s t. t ≡ s ++ text)
 Prints count tells held old new text WriteFault = (count old ≤ count new) × Rose (count old) (count new) × Holds tells held old new (λ s t. AddsFront s t text)
 Prints count tells held old new text Starved = (count old ≤ count new) × Holds tells held old new (λ s t. AddsFront s t text)
+
+-- the same, from any state of the sink to this one
+abbrev pub PrintsTo : {S : Type 0} → (S → ℕ) → (S → Type 0) → (S → List ℕ) → S → S → List ℕ → Cut → Type 0
+PrintsTo count tells held new old text cut = Prints count tells held old new text cut

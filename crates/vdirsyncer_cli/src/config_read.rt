@@ -1,13 +1,14 @@
 //! Reads the file of the configuration through the outfit.
 
 ghost use Rattle.std.specs.Prelude.{◌≡◌};
-ghost use Rattle.outside.specs.Places.{IsWhole, StayTold, place_by};
+ghost use Rattle.outfits.specs.Places.{IsWhole, StayTold, place_by};
 ghost use Rattle.vdirsyncer_cli.specs.ConfigRead.{FileStep, FileRead};
 ghost use Rattle.vdirsyncer_cli.specs.Files.{folder_of, name_of};
 
 use crate::file_error::FileError;
 use crate::files::{folder_of, name_of};
-use outside::{Folder, FolderError, NoMemory, Outfit};
+use outfits::Outfit;
+use outside::{Folder, FolderError, NoMemory};
 use values::Bytes;
 
 /// The longest configuration, in bytes.
@@ -33,6 +34,8 @@ pub fn read_through<O: Outfit>(file: &str, outfit: &mut O) -> Result<Bytes, File
     ensures whole { IsWhole (O.places outfit.new) }
     ensures read { FileRead (O.places outfit.old) (O.places outfit.new) (O.tells outfit.old) (folder_of file.now) (name_of file.now) result }
     ensures stay_told { StayTold (O.tells outfit.old) (O.tells outfit.new) }
+    ensures children { O.children outfit.new ≡ O.children outfit.old }
+    ensures child_told { O.tells_child outfit.old → O.tells_child outfit.new }
 {
     let folder = folder_of(file);
     let mut dir = match outfit.open_dir(folder) {

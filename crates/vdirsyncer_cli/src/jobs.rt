@@ -2,7 +2,7 @@
 
 ghost use Rattle.std.specs.Prelude.{◌≡◌, ◌≢◌, ◌⊎◌, IfOk, OnOk, OnErr};
 ghost use Rattle.std.specs.List.{AllByRecursion};
-ghost use Rattle.outside.specs.Places.{IsWhole, IsSame, StayTold};
+ghost use Rattle.outfits.specs.Places.{IsWhole, IsSame, StayTold};
 ghost use Rattle.cli_text.specs.Texts.{report_text};
 ghost use Rattle.vdirsyncer_cli.specs.Jobs.{JobAt};
 ghost use Rattle.vdirsyncer_cli.specs.JobLists.{job_to_run, MayRun, PrintsOn, RunsNext, RunsNone, RanJobs};
@@ -13,7 +13,8 @@ use crate::one_job::run_job;
 use crate::printing::{Cut, print};
 use cli_jobs::SyncJob;
 use cli_text::report_text;
-use outside::{NoMemory, Outfit, Sink};
+use outfits::Outfit;
+use outside::{NoMemory, Sink};
 use std::alloc::Global;
 use sync_plan::Report;
 
@@ -40,6 +41,7 @@ fn run_one<O: Outfit>(
     ensures ran { IfOk result (JobAt (O.places outfit.old) (O.places outfit.new) (O.tells outfit.old) (O.tells outfit.new) (job_to_run force_delete job.now)) }
     ensures starved { OnErr result (IsSame (O.places outfit.old) (O.places outfit.new)) }
     ensures stay_told { OnErr result (StayTold (O.tells outfit.old) (O.tells outfit.new)) }
+    ensures children { O.children outfit.new ≡ O.children outfit.old }
 {
     match job_to_run(alloc, job, force_delete) {
         Ok(job) => run_job(alloc, job, outfit),
@@ -74,6 +76,7 @@ fn run_next<O: Outfit, S: Sink>(
     requires may_run { MayRun job.now }
     ensures whole { IsWhole (O.places outfit.new) }
     ensures ran { OnOk result (RunsNext O.places O.tells force_delete outfit.old outfit.new job.now (PrintsOn S.count S.tells S.held out.old out.new) progress.old progress.new) }
+    ensures children { O.children outfit.new ≡ O.children outfit.old }
     ensures spoke { OnOk result (progress.new.cut ≢ Cut.Starved) }
     ensures stopped { OnErr result (RunsNext O.places O.tells force_delete outfit.old outfit.new job.now (PrintsOn S.count S.tells S.held out.old out.new) progress.old progress.new ⊎ RunsNone O.places O.tells outfit.old outfit.new out.old out.new progress.old progress.new) }
 {
@@ -108,6 +111,7 @@ pub fn run_jobs<O: Outfit, S: Sink>(
     requires may_run { AllByRecursion MayRun jobs.now }
     ensures whole { IsWhole (O.places outfit.new) }
     ensures ran { RanJobs O.places O.tells force_delete outfit.old outfit.new jobs.now (Prints S.count S.tells S.held out.old out.new) result }
+    ensures children { O.children outfit.new ≡ O.children outfit.old }
 {
     let mut progress = Progress {
         reports: Vec::new(alloc),

@@ -1,7 +1,7 @@
 //! One job over an outfit: its three places are opened, it runs, and all are given back.
 
 ghost use Rattle.std.specs.Prelude.{◌≡◌, ◌≢◌, ◌↔◌, [], IsTrue, IfOk, OnErr, None};
-ghost use Rattle.outside.specs.Places.{IsWhole, IsSame, StayTold, place_by};
+ghost use Rattle.outfits.specs.Places.{IsWhole, IsSame, StayTold, place_by};
 ghost use Rattle.vdir_store.specs.Names.{is_ending};
 ghost use Rattle.sync_plan.specs.Verdicts.{IsWritable};
 ghost use Rattle.vdirsyncer_cli.specs.SamePlace.{IsSamePlace};
@@ -9,7 +9,8 @@ ghost use Rattle.vdirsyncer_cli.specs.Jobs.{JobAt, OverFolders};
 
 use crate::job::Job;
 use crate::opened::{Opened, give_three, open_three};
-use outside::{Folder, NoMemory, Outfit};
+use outfits::Outfit;
+use outside::{Folder, NoMemory};
 use status_keeper::FileKeeper;
 use std::alloc::Global;
 use sync_plan::{JobEnd, Refusal, Report};
@@ -74,6 +75,7 @@ pub fn run_job<O: Outfit>(alloc: Global, job: Job, outfit: &mut O) -> Result<Rep
     ensures ran { IfOk result (JobAt (O.places outfit.old) (O.places outfit.new) (O.tells outfit.old) (O.tells outfit.new) job) }
     ensures starved { OnErr result (IsSame (O.places outfit.old) (O.places outfit.new)) }
     ensures stay_told { OnErr result (StayTold (O.tells outfit.old) (O.tells outfit.new)) }
+    ensures children { O.children outfit.new ≡ O.children outfit.old }
 {
     if is_same_place(&job) {
         return Ok(refused_same(alloc));

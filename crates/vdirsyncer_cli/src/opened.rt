@@ -1,11 +1,12 @@
 //! The three places of a job: opened all or none, and given back.
 
 ghost use Rattle.std.specs.Prelude.{◌≡◌, IfOk, OnErr, None};
-ghost use Rattle.outside.specs.Places.{IsWhole, IsSame, StayTold, place_by};
+ghost use Rattle.outfits.specs.Places.{IsWhole, IsSame, StayTold, place_by};
 ghost use Rattle.vdirsyncer_cli.specs.SamePlace.{IsSamePlace};
 ghost use Rattle.vdirsyncer_cli.specs.Opened.{HandsOut, TakesBack};
 
-use outside::{NoMemory, Outfit};
+use outfits::Outfit;
+use outside::NoMemory;
 
 /// The three places of a job.
 #[derive(Drop)]
@@ -27,6 +28,7 @@ pub fn open_three<O: Outfit>(
     ensures opened { IfOk result (HandsOut (place_by O.Dir.count O.Dir.state) O.Dir.tells (O.places outfit.old) (O.places outfit.new) (O.tells outfit.old) (O.tells outfit.new) a.now b.now status.now) }
     ensures starved { OnErr result (IsSame (O.places outfit.old) (O.places outfit.new)) }
     ensures stay_told { OnErr result (StayTold (O.tells outfit.old) (O.tells outfit.new)) }
+    ensures children { O.children outfit.new ≡ O.children outfit.old }
 {
     let dir_a = match outfit.open_dir(a) {
         Ok(Some(dir)) => dir,
@@ -62,7 +64,8 @@ pub fn give_three<O: Outfit>(a: &str, b: &str, status: &str, dirs: Opened<O::Dir
     requires out_a { O.places outfit.old a.now ≡ None }
     requires out_b { O.places outfit.old b.now ≡ None }
     requires out_s { O.places outfit.old status.now ≡ None }
-    ensures { TakesBack (place_by O.Dir.count O.Dir.state) O.Dir.tells (O.places outfit.old) (O.places outfit.new) (O.tells outfit.old) (O.tells outfit.new) a.now b.now status.now dirs }
+    ensures given { TakesBack (place_by O.Dir.count O.Dir.state) O.Dir.tells (O.places outfit.old) (O.places outfit.new) (O.tells outfit.old) (O.tells outfit.new) a.now b.now status.now dirs }
+    ensures children { O.children outfit.new ≡ O.children outfit.old }
 {
     let Opened {
         a: dir_a,

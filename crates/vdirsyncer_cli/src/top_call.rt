@@ -1,17 +1,22 @@
 //! The top call.
 
-ghost use Rattle.std.specs.Prelude.{◌≡◌};
+ghost use Rattle.std.specs.Prelude.{◌≡◌, IfOk};
+ghost use Rattle.std.specs.List.{AllByRecursion};
 ghost use Rattle.std.specs.Option.{option_copied};
-ghost use Rattle.outside.specs.Places.{IsWhole};
-ghost use Rattle.cli_jobs.specs.Answers.{Comes};
+ghost use Rattle.outfits.specs.Places.{IsSame, IsWhole, StayTold};
+ghost use Rattle.outfits.specs.Children.{child_by};
 ghost use Rattle.cli_jobs.specs.Texts.{refusal_text};
 ghost use Rattle.cli_jobs.specs.declared.refusal.Refusal.TheVariants as refusal;
 ghost use Rattle.cli_words.specs.Words.{meaning_of};
+ghost use Rattle.config_fetch.specs.Fetches.{FetchedBy};
+ghost use Rattle.config_fetch.specs.Filling.{Fills, IsStill, world};
 ghost use Rattle.vdirsyncer_cli.specs.Asked.{asked_of};
 ghost use Rattle.vdirsyncer_cli.specs.CleanRuns.{PromisedRun, SinkIsStill, SinkIsSilent};
 ghost use Rattle.vdirsyncer_cli.specs.Files.{file_text};
-ghost use Rattle.vdirsyncer_cli.specs.Printing.{Prints};
-ghost use Rattle.vdirsyncer_cli.specs.Runs.{WordsRun, Refuses, FinishesBy, TellsStarved, cut_status, comes_to};
+ghost use Rattle.vdirsyncer_cli.specs.JobLists.{MayRun};
+ghost use Rattle.vdirsyncer_cli.specs.Printing.{Prints, PrintsTo};
+ghost use Rattle.vdirsyncer_cli.specs.Settling.{SettlesOrTries};
+ghost use Rattle.vdirsyncer_cli.specs.Runs.{WordsRun, Refuses, FinishesBy, TellsStarved, cut_status};
 
 use crate::asked::{Asked, Wanted, asked_of};
 use crate::config_read::read_through;
@@ -19,10 +24,12 @@ use crate::env::Env;
 use crate::file_error::{FileError, file_text};
 use crate::jobs::{Progress, run_jobs};
 use crate::printing::{Cut, print};
-use cli_jobs::{Refusal, SyncJob, jobs_of, refusal_text};
+use cli_jobs::{Refusal, SyncJob, chosen_jobs, config_of, refusal_text};
 use cli_text::exit_status;
 use cli_words::usage;
-use outside::{NoMemory, Outfit, Sink, Source};
+use config_fetch::fill_texts;
+use outfits::Outfit;
+use outside::{NoMemory, Sink, Source};
 use std::alloc::Global;
 use values::{Bytes, Sequence, Text};
 
@@ -97,37 +104,54 @@ fn home_of(wanted: &Wanted) -> Option<&str>
     }
 }
 
-/// The jobs that are wanted of a configuration.
-fn chosen(alloc: Global, wanted: &Wanted, bytes: &Bytes) -> Result<Sequence<SyncJob>, Refusal>
-    ensures { Comes (comes_to wanted.now bytes.now) result }
+/// The jobs that are wanted of a configuration, once its texts are fetched.
+fn settle<O: Outfit, I: Source, E: Sink>(
+    alloc: Global,
+    wanted: &Wanted,
+    bytes: &Bytes,
+    outfit: &mut O,
+    input: &mut I,
+    err: &mut E,
+) -> Result<Sequence<SyncJob>, Refusal>
+    ensures settles { SettlesOrTries (IsStill O.children) (Fills O.children O.tells_child (child_by O.Child.count O.Child.state) O.Child.tells (FetchedBy O.Child.count O.Child.tells O.Child.state I.count I.tells I.left E.count E.tells E.held)) wanted.now bytes.now (world outfit.old input.old err.old) (world outfit.new input.new err.new) result }
+    ensures may_run { IfOk result (AllByRecursion MayRun) }
+    ensures same { IsSame (O.places outfit.old) (O.places outfit.new) }
+    ensures stay_told { StayTold (O.tells outfit.old) (O.tells outfit.new) }
+    ensures all_back { (O.children outfit.new).out ≡ (O.children outfit.old).out }
 {
-    jobs_of(
-        alloc,
-        wanted.names.as_slice(),
-        home_of(wanted),
-        bytes.as_slice(),
-    )
+    let names = wanted.names.as_slice();
+    let home = home_of(wanted);
+    let config = match config_of(alloc, bytes.as_slice()) {
+        Ok(config) => config,
+        Err(refusal) => return Err(refusal),
+    };
+    match fill_texts(alloc, names, home, config, outfit, input, err) {
+        Ok(config) => chosen_jobs(alloc, names, home, &config),
+        Err(refusal) => Err(refusal),
+    }
 }
 
 /// Reads the configuration and runs its jobs.
-fn sync<O: Outfit, S: Sink, E: Sink>(
+fn sync<O: Outfit, I: Source, S: Sink, E: Sink>(
     alloc: Global,
     wanted: &Wanted,
     outfit: &mut O,
+    input: &mut I,
     out: &mut S,
     err: &mut E,
 ) -> u8
     requires { IsWhole (O.places outfit.old) }
     ensures whole { IsWhole (O.places outfit.new) }
-    ensures run { WordsRun O.places O.tells outfit.old outfit.new (Asked.Run wanted.now)
-        (Prints S.count S.tells S.held out.old out.new) (Prints E.count E.tells E.held err.old err.new) result }
+    ensures all_back { (O.children outfit.new).out ≡ (O.children outfit.old).out }
+    ensures run { WordsRun O.places O.tells O.children O.tells_child (Fills O.children O.tells_child (child_by O.Child.count O.Child.state) O.Child.tells (FetchedBy O.Child.count O.Child.tells O.Child.state I.count I.tells I.left E.count E.tells E.held)) (world outfit.old input.old err.old) outfit.new input.new (Asked.Run wanted.now)
+        (Prints S.count S.tells S.held out.old out.new) (PrintsTo E.count E.tells E.held err.new) result }
 {
     let file = wanted.file.as_str();
     let bytes = match read_through(file, outfit) {
         Ok(bytes) => bytes,
         Err(error) => return refuse_file(alloc, file, error, err),
     };
-    let jobs = match chosen(alloc, wanted, &bytes) {
+    let jobs = match settle(alloc, wanted, &bytes, outfit, input, err) {
         Ok(jobs) => jobs,
         Err(reason) => return refuse(alloc, reason, err),
     };
@@ -137,17 +161,19 @@ fn sync<O: Outfit, S: Sink, E: Sink>(
 }
 
 /// Does what is asked.
-fn obey<O: Outfit, S: Sink, E: Sink>(
+fn obey<O: Outfit, I: Source, S: Sink, E: Sink>(
     alloc: Global,
     what: &Asked,
     outfit: &mut O,
+    input: &mut I,
     out: &mut S,
     err: &mut E,
 ) -> u8
     requires { IsWhole (O.places outfit.old) }
     ensures whole { IsWhole (O.places outfit.new) }
-    ensures run { WordsRun O.places O.tells outfit.old outfit.new what.now
-        (Prints S.count S.tells S.held out.old out.new) (Prints E.count E.tells E.held err.old err.new) result }
+    ensures all_back { (O.children outfit.new).out ≡ (O.children outfit.old).out }
+    ensures run { WordsRun O.places O.tells O.children O.tells_child (Fills O.children O.tells_child (child_by O.Child.count O.Child.state) O.Child.tells (FetchedBy O.Child.count O.Child.tells O.Child.state I.count I.tells I.left E.count E.tells E.held)) (world outfit.old input.old err.old) outfit.new input.new what.now
+        (Prints S.count S.tells S.held out.old out.new) (PrintsTo E.count E.tells E.held err.new) result }
 {
     match what {
         Asked::Wrong => {
@@ -159,50 +185,53 @@ fn obey<O: Outfit, S: Sink, E: Sink>(
             let _ = print(err, line.as_str());
             1
         }
-        Asked::Run(wanted) => sync(alloc, wanted, outfit, out, err),
+        Asked::Run(wanted) => sync(alloc, wanted, outfit, input, out, err),
     }
 }
 
 /// What `run_words` does: the words and the configuration are read, the jobs are run, and their reports are printed.
-fn do_words<O: Outfit, S: Sink, E: Sink>(
+fn do_words<O: Outfit, I: Source, S: Sink, E: Sink>(
     alloc: Global,
     words: &[Text],
     env: &Env,
     outfit: &mut O,
+    input: &mut I,
     out: &mut S,
     err: &mut E,
 ) -> u8
     requires { IsWhole (O.places outfit.old) }
     ensures whole { IsWhole (O.places outfit.new) }
-    ensures run { WordsRun O.places O.tells outfit.old outfit.new (asked_of env.now (meaning_of words.now))
-        (Prints S.count S.tells S.held out.old out.new) (Prints E.count E.tells E.held err.old err.new) result }
+    ensures all_back { (O.children outfit.new).out ≡ (O.children outfit.old).out }
+    ensures run { WordsRun O.places O.tells O.children O.tells_child (Fills O.children O.tells_child (child_by O.Child.count O.Child.state) O.Child.tells (FetchedBy O.Child.count O.Child.tells O.Child.state I.count I.tells I.left E.count E.tells E.held)) (world outfit.old input.old err.old) outfit.new input.new (asked_of env.now (meaning_of words.now))
+        (Prints S.count S.tells S.held out.old out.new) (PrintsTo E.count E.tells E.held err.new) result }
 {
     match asked_of(alloc, words, env) {
-        Ok(what) => obey(alloc, &what, outfit, out, err),
+        Ok(what) => obey(alloc, &what, outfit, input, out, err),
         Err(NoMemory) => tell_starved(err),
     }
 }
 
-/// Runs the program: reads the words and the configuration, runs the jobs of the chosen pairs in the order of the
-/// configuration, prints the report of each behind it, and answers the exit status: 0 where each job is in sync without
+/// Runs the program: reads the words and the configuration, fetches the texts that the chosen pairs need, runs the jobs of
+/// these pairs in the order of the configuration, prints the report of each behind it, and answers the exit status: 0 where each job is in sync without
 /// lines, 1 where not, where something was refused, or where a write to `out` failed, 2 for wrong words, 3 for want of
 /// memory. A job that is refused or ends by want of memory doesn't stop the others; a want of memory outside a job ends
-/// the command. The input serves words that are not built yet.
+/// the command. Prompts are written to `err`, and their answers are lines of the input; what is fetched is printed nowhere.
 pub fn run_words<O: Outfit, I: Source, S: Sink, E: Sink>(
     alloc: Global,
     words: &[Text],
     env: &Env,
     outfit: &mut O,
-    _input: &mut I,
+    input: &mut I,
     out: &mut S,
     err: &mut E,
 ) -> u8
     requires { IsWhole (O.places outfit.old) }
     ensures whole { IsWhole (O.places outfit.new) }
-    ensures promised { PromisedRun O.places O.tells outfit.old outfit.new (asked_of env.now (meaning_of words.now))
-        (Prints S.count S.tells S.held out.old out.new) (Prints E.count E.tells E.held err.old err.new)
-        (SinkIsStill S.count out.old out.new × SinkIsStill E.count err.old err.new)
-        (SinkIsSilent S.tells S.held out.old out.new × SinkIsSilent E.tells E.held err.old err.new) result }
+    ensures all_back { (O.children outfit.new).out ≡ (O.children outfit.old).out }
+    ensures promised { PromisedRun O.places O.tells O.children O.tells_child (Fills O.children O.tells_child (child_by O.Child.count O.Child.state) O.Child.tells (FetchedBy O.Child.count O.Child.tells O.Child.state I.count I.tells I.left E.count E.tells E.held)) (world outfit.old input.old err.old) outfit.new input.new (asked_of env.now (meaning_of words.now))
+        (Prints S.count S.tells S.held out.old out.new) (PrintsTo E.count E.tells E.held err.new)
+        (λ err_before. SinkIsStill S.count out.old out.new × SinkIsStill E.count err_before err.new)
+        (λ err_before. SinkIsSilent S.tells S.held out.old out.new × SinkIsSilent E.tells E.held err_before err.new) result }
 {
-    do_words(alloc, words, env, outfit, out, err)
+    do_words(alloc, words, env, outfit, input, out, err)
 }

@@ -174,14 +174,26 @@ impl Comparison<'_> {
         self.printed("out", ran.out.as_slice(), wanted.out.as_slice())?;
         self.printed("err", ran.err.as_slice(), wanted.err.as_slice())?;
         self.places()?;
+        self.programs()?;
         match &ran.trails {
             Some(trails) => self.trails(trails),
             None => Ok(()),
         }
     }
+
+    fn programs(&mut self) -> Result<(), AllocError> {
+        let (Some(got), Some(wanted)) = (&self.ran.programs, &self.wanted.ran) else {
+            return Ok(());
+        };
+        if got.as_slice() == wanted.as_slice() {
+            return Ok(());
+        }
+        let difference = format!(in self.alloc; "ran {got:?}, not {wanted:?}")?;
+        self.add(difference.as_str())
+    }
 }
 
-/// All that differs, on one line, in the order: exit status, what was printed, places, own writes and reads.
+/// All that differs, on one line, in the order: exit status, what was printed, places, programs, own writes and reads.
 pub fn differences<'a>(
     alloc: Global,
     before: &'a Places,

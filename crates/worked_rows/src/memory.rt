@@ -1,21 +1,23 @@
 //! Runs over folders in memory.
 
 ghost use Rattle.std.specs.Prelude.{◌≡◌, ◌≢◌, true, All, AllPairs, IfOk};
-ghost use Rattle.outside.specs.Places.{IsWhole};
+ghost use Rattle.outfits.specs.Places.{IsWhole};
 
 use crate::error::RowError;
 use crate::places::{Held, Places};
 use crate::plans::no_plan;
 use crate::ran::{Ran, Trail};
 use crate::rows::{Edit, Run};
-use outside::{FaultPlan, FolderEvent, MemFolder, MemOutfit, MemSink, MemSource, Outfit};
+use children::{ChildEvent, Ended, MemChild};
+use outfits::{MemOutfit, Outfit};
+use outside::{FaultPlan, FolderEvent, MemFolder, MemSink, MemSource};
 use std::alloc::{AllocError, Global};
 use std::collections::{BTreeMap, BTreeSet};
 use values::{Bytes, Text};
 use vdirsyncer_cli::{Env, run_words};
 
 /// How many bytes of output there is room for where a row doesn't say it.
-const ROOM: u64 = 65_536;
+pub const ROOM: u64 = 65_536;
 
 fn folder_of(alloc: Global, held: &Option<Held>, plan: FaultPlan) -> Result<MemFolder, RowError> {
     let Some(held) = held else {
@@ -84,13 +86,29 @@ fn are_apart(dirs: &[(Text, MemFolder)]) -> bool
     }
 }
 
-fn outfit_of(alloc: Global, dirs: Vec<(Text, MemFolder)>) -> Result<MemOutfit, RowError>
+/// What the devices of a run are made of.
+#[derive(Drop)]
+pub struct Devices {
+    /// By the path of a folder, what becomes of its calls.
+    pub plans: BTreeMap<String, FaultPlan>,
+    pub programs: Vec<Ended>,
+    pub input: Vec<u8>,
+    /// How many bytes of output there is room for.
+    pub room: u64,
+}
+
+fn outfit_of(
+    alloc: Global,
+    dirs: Vec<(Text, MemFolder)>,
+    programs: Vec<Ended>,
+) -> Result<MemOutfit, RowError>
     ensures { IfOk result (λ o. IsWhole (⟦<MemOutfit as Outfit>⟧.places o)) }
 {
     if !are_apart(dirs.as_slice()) {
         return Err(RowError::PlaceTwice(String::new(alloc)));
     }
-    match MemOutfit::new(alloc, dirs) {
+    let child = MemChild::new(alloc, programs, Vec::new(alloc), no_plan(alloc))?;
+    match MemOutfit::new(alloc, dirs, child) {
         Ok(outfit) => Ok(outfit),
         Err(_) => Err(RowError::System(AllocError.into())),
     }
@@ -164,17 +182,44 @@ fn look(
     Ok((places, trails))
 }
 
+/// The words of each program that was run, in order.
+fn programs_of(alloc: Global, outfit: &MemOutfit) -> Result<Vec<Vec<String>>, AllocError> {
+    let mut programs = Vec::new(alloc);
+    for child in outfit.children() {
+        for call in child.calls() {
+            if let ChildEvent::Ran { argv, .. } = call {
+                programs.push(words_of(alloc, argv.as_slice())?)?;
+            }
+        }
+    }
+    Ok(programs)
+}
+
+fn words_of(alloc: Global, argv: &[Text]) -> Result<Vec<String>, AllocError> {
+    let mut words = Vec::new(alloc);
+    for word in argv {
+        words.push(String::from_str(alloc, word.as_str())?)?;
+    }
+    Ok(words)
+}
+
 /// Runs the program over folders in memory that hold this.
 pub fn run(
     alloc: Global,
     places: &Places,
     words: &[Text],
-    plans: BTreeMap<String, FaultPlan>,
-    room: Option<u64>,
+    devices: Devices,
 ) -> Result<Ran, RowError> {
+    let Devices {
+        plans,
+        programs,
+        input,
+        room,
+    } = devices;
     let dirs = folders_of(alloc, places, plans)?;
-    let mut outfit = outfit_of(alloc, dirs)?;
-    let printed = print_into(alloc, words, &mut outfit, room.unwrap_or(ROOM))?;
+    let mut outfit = outfit_of(alloc, dirs, programs)?;
+    let printed = print_into(alloc, words, &mut outfit, input, room)?;
+    let programs = programs_of(alloc, &outfit)?;
     let (places, trails) = look(alloc, places, &mut outfit)?;
     Ok(Ran {
         exit: printed.exit,
@@ -182,6 +227,7 @@ pub fn run(
         err: printed.err,
         places,
         trails: Some(trails),
+        programs: Some(programs),
     })
 }
 
@@ -198,6 +244,7 @@ pub fn print_into<O: Outfit>(
     alloc: Global,
     words: &[Text],
     outfit: &mut O,
+    input: Vec<u8>,
     room: u64,
 ) -> Result<Printed, RowError>
     requires { IsWhole (O.places outfit.old) }
@@ -207,8 +254,7 @@ pub fn print_into<O: Outfit>(
         xdg_config: None,
         vdirsyncer_config: None,
     };
-    let nothing = Bytes::of(Vec::new(alloc));
-    let mut input = MemSource::new(alloc, nothing, no_plan(alloc))?;
+    let mut input = MemSource::new(alloc, Bytes::of(input), no_plan(alloc))?;
     let mut out = MemSink::new(alloc, room, no_plan(alloc))?;
     let mut err = MemSink::new(alloc, ROOM, no_plan(alloc))?;
     let exit = run_words(

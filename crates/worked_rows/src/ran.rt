@@ -12,6 +12,8 @@ pub struct Ran {
     pub places: Places,
     /// What happened at each place, where the devices tell it.
     pub trails: Option<BTreeMap<String, Trail>>,
+    /// The words of each program that was run, in order, where that is told.
+    pub programs: Option<Vec<Vec<String>>>,
 }
 
 /// The names of the files that a run wrote or removed, and of those that it read, in order.

@@ -5,7 +5,7 @@ use crate::memory::print_into;
 use crate::places::{Held, Places, below};
 use crate::ran::Ran;
 use crate::rows::Edit;
-use outside::RealOutfit;
+use outfits::RealOutfit;
 use std::alloc::Global;
 use std::collections::BTreeMap;
 use std::{fs, io};
@@ -115,15 +115,21 @@ fn look(rt: &HostRuntime, paths: &Places) -> io::Result<Places> {
 }
 
 /// Runs the program over real folders.
-pub fn run(rt: &HostRuntime, places: &Places, words: &[Text]) -> Result<Ran, RowError> {
+pub fn run(
+    rt: &HostRuntime,
+    places: &Places,
+    words: &[Text],
+    input: Vec<u8>,
+) -> Result<Ran, RowError> {
     let alloc = rt.alloc();
     let mut outfit = RealOutfit::new(alloc, rt.clone()?);
-    let printed = print_into(alloc, words, &mut outfit, ROOM)?;
+    let printed = print_into(alloc, words, &mut outfit, input, ROOM)?;
     Ok(Ran {
         exit: printed.exit,
         out: printed.out,
         err: printed.err,
         places: look(rt, places)?,
         trails: None,
+        programs: None,
     })
 }

@@ -6,10 +6,11 @@ use crate::json::Json;
 use crate::places::{Held, Places, below, held_of, usual_places};
 use crate::plans::plan_of;
 use crate::texts::{Texts, rooted};
+use children::Ended;
 use outside::FaultPlan;
 use std::alloc::{AllocError, Global};
 use std::collections::BTreeMap;
-use values::Text;
+use values::{Bytes, Text};
 
 /// A row: what stands before it, and its runs.
 #[derive(Drop)]
@@ -24,6 +25,10 @@ pub struct Run {
     pub edits: Vec<Edit>,
     pub words: Vec<Text>,
     pub plans: BTreeMap<String, FaultPlan>,
+    /// How the programs end that are run, the first of them first.
+    pub programs: Vec<Ended>,
+    /// What standard input holds.
+    pub input: Vec<u8>,
     pub room: Option<u64>,
     pub wanted: Wanted,
 }
@@ -59,6 +64,8 @@ pub struct Wanted {
     pub writes: Option<Names>,
     /// The reads of each place, in order.
     pub reads: Option<Names>,
+    /// The words of each program that is run, in order.
+    pub ran: Option<Vec<Vec<String>>>,
 }
 
 /// What rows are settled with.
@@ -173,6 +180,42 @@ impl Ground<'_> {
         Ok(text.into_bytes())
     }
 
+    fn program(self, form: Entry<'_>) -> Result<Ended, RowError> {
+        let program = form.object(&["status", "prints"])?;
+        let status = match program.get("status") {
+            None => 0,
+            Some(status) => match i32::try_from(status.number()?) {
+                Ok(number) => number,
+                Err(_) => return Err(status.is_no("status of a program")),
+            },
+        };
+        Ok(Ended {
+            status,
+            output: Bytes::of(self.printed(program.get("prints"))?),
+        })
+    }
+
+    fn programs(self, run: Object<'_>) -> Result<Vec<Ended>, RowError> {
+        let mut programs = Vec::new(self.alloc);
+        for form in run.list("programs")? {
+            let program = Entry::of(self.alloc, "programs", form);
+            programs.push(self.program(program)?)?;
+        }
+        Ok(programs)
+    }
+
+    /// The words of programs.
+    fn ran(self, form: Option<Entry<'_>>) -> Result<Option<Vec<Vec<String>>>, RowError> {
+        let Some(form) = form else {
+            return Ok(None);
+        };
+        let mut ran = Vec::new(self.alloc);
+        for words in form.list()? {
+            ran.push(Entry::of(self.alloc, "ran", words).texts()?)?;
+        }
+        Ok(Some(ran))
+    }
+
     fn plans(
         self,
         run: Object<'_>,
@@ -242,13 +285,14 @@ impl Ground<'_> {
             keeps,
             writes: self.names(run.get("writes"), places)?,
             reads: self.names(run.get("reads"), places)?,
+            ran: self.ran(run.get("ran"))?,
         })
     }
 
     fn run(self, form: Entry<'_>, places: &Places) -> Result<Run, RowError> {
         let run = form.object(&[
-            "edits", "words", "plans", "room", "exit", "out", "err", "then", "keeps", "writes",
-            "reads",
+            "edits", "words", "plans", "programs", "input", "room", "exit", "out", "err", "then",
+            "keeps", "writes", "reads", "ran",
         ])?;
         let room = match run.get("room") {
             Some(room) => Some(room.number()?),
@@ -258,6 +302,8 @@ impl Ground<'_> {
             edits: self.edits(run, places)?,
             words: self.words(run)?,
             plans: self.plans(run, places)?,
+            programs: self.programs(run)?,
+            input: self.printed(run.get("input"))?,
             room,
             wanted: self.wanted(run, places)?,
         })
@@ -299,20 +345,25 @@ fn exit_of(run: Object<'_>) -> Result<u8, RowError> {
 }
 
 fn expects_nothing(run: Object<'_>) -> bool {
-    let keys = ["exit", "out", "err", "then", "keeps", "writes", "reads"];
+    let keys = [
+        "exit", "out", "err", "then", "keeps", "writes", "reads", "ran",
+    ];
     !keys.iter().any(|key| run.has(*key))
 }
 
 impl Run {
     /// Whether only devices in memory can do what the run asks for.
     pub fn wants_memory(&self) -> bool {
-        !self.plans.is_empty() || self.room.is_some()
+        !self.plans.is_empty() || !self.programs.is_empty() || self.room.is_some()
     }
 }
 
 impl Wanted {
-    /// Whether it speaks of own writes or reads, which only devices in memory tell.
+    /// Whether it speaks of own writes or reads, or of programs that were run, which only devices in memory tell.
     pub fn is_of_trails(&self) -> bool {
-        !self.keeps.is_empty() || self.writes.is_some() || self.reads.is_some()
+        !self.keeps.is_empty()
+            || self.writes.is_some()
+            || self.reads.is_some()
+            || self.ran.is_some()
     }
 }

@@ -3,6 +3,7 @@
 use crate::compare::differences;
 use crate::error::RowError;
 use crate::json::Json;
+use crate::memory::Devices;
 use crate::places::Places;
 use crate::ran::Ran;
 use crate::rows::{Ground, Row, Run, Wanted};
@@ -100,14 +101,22 @@ impl Runner<'_> {
             edits,
             words,
             plans,
+            programs,
+            input,
             room,
             wanted,
         } = run;
         let ran = if self.is_real() {
             real::edit(self.rt, edits.as_slice())?;
-            real::run(self.rt, places, words.as_slice())?
+            real::run(self.rt, places, words.as_slice(), input)?
         } else {
-            memory::run(self.rt.alloc(), places, words.as_slice(), plans, room)?
+            let devices = Devices {
+                plans,
+                programs,
+                input,
+                room: room.unwrap_or(memory::ROOM),
+            };
+            memory::run(self.rt.alloc(), places, words.as_slice(), devices)?
         };
         Ok((ran, wanted))
     }

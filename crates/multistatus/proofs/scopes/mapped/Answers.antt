@@ -14,5 +14,5 @@ returns c = λ listed is.
     map_new listed c.args.binding.now (λ (q : List ℕ). get (slice_cmp nat_cmp) c.args.by_prefix q) (λ (q : List ℕ). get (slice_cmp nat_cmp) c.insert.new.self q) is
     (sym c.contains_key.ensures ∙ c.if-contains_key.false)
     (λ q. c.in_ok-insert.ensures.updates.0 q
-    ∙ ap (λ (p : List ℕ). cond (is_at (slice_cmp nat_cmp p) q) (Some c.of-space.result) (get (slice_cmp nat_cmp) c.args.by_prefix q)) (c.of-prefix.ensures ∙ c.as_str.ensures)
-    ∙ ap (λ (s : List ℕ). cond (is_at (slice_cmp nat_cmp c.args.binding.now.prefix) q) (Some s) (get (slice_cmp nat_cmp) c.args.by_prefix q)) (c.of-space.ensures ∙ c.as_str-2.ensures))
+    ∙ ap (λ (p : List ℕ). cond (is_at (slice_cmp nat_cmp p) q) (Some c.again-space.result) (get (slice_cmp nat_cmp) c.args.by_prefix q)) (c.of-prefix.ensures ∙ c.as_str.ensures)
+    ∙ ap (λ (s : List ℕ). cond (is_at (slice_cmp nat_cmp c.args.binding.now.prefix) q) (Some s) (get (slice_cmp nat_cmp) c.args.by_prefix q)) c.again-space.ensures)

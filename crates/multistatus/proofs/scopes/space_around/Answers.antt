@@ -7,8 +7,8 @@ use Rattle.multistatus.proofs.scopes.space_around.Goals as goal
 
 pub returns-in-Some : goal.returns-in-Some
 returns-in-Some c =
-    let here : Some c.in-Some.space.now ≡ space_of c.args.prefix.now c.index-levels-n.result.declared = c.in-Some.ensures ∙ ap (λ (l : Level). space_of c.args.prefix.now l.declared) (sym c.index-levels-n.is) in
-    found_inside c.args.prefix.now c.index-levels-n.result.declared (scope_of (reverse (take (c.loop-n.n - 1) c.args.levels.now))) c.in-Some.space.now here
+    let here : Some c.in-Some.space ≡ space_of c.args.prefix.now c.index-levels-n.result.declared = c.in-Some.ensures ∙ ap (λ (l : Level). space_of c.args.prefix.now l.declared) (sym c.index-levels-n.is) in
+    found_inside c.args.prefix.now c.index-levels-n.result.declared (scope_of (reverse (take (c.loop-n.n - 1) c.args.levels.now))) c.in-Some.space here
     ∙ ap (space_of c.args.prefix.now) (scope_around c.args.levels.now c.loop-n.n c.index-levels-n.result (omega arith) (omega (arith, c.loop-n.invariant.within)) c.index-levels-n.is)
     ∙ c.loop-n.invariant.same
 

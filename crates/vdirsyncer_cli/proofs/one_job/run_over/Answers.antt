@@ -1,6 +1,6 @@
 use Rattle.std.proofs.Common.{◌∙◌}
 use Rattle.vdirsyncer_cli.proofs.JobLaws.{run_over, side_by}
-use Rattle.outside.specs.Places.{place_by}
+use Rattle.outfits.specs.Places.{place_by}
 use Rattle.vdirsyncer_cli.specs.Jobs.{places_of}
 use Rattle.vdirsyncer_cli.proofs.one_job.run_over.Goals as goal
 

@@ -1,0 +1,3 @@
+pub mod Children
+pub mod Places
+pub mod Slots

@@ -1,0 +1,4 @@
+pub mod Exchanges
+pub mod Plays
+pub mod Sites
+pub mod WireCalls
