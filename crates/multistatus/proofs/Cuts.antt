@@ -24,7 +24,7 @@ stripped_found (m ∷ mark) (b ∷ bytes) rest h =
     let more : bytes ≡ mark ++ rest = stripped_found mark bytes rest both.1 in
     cc
 
-none_unless : {A : Type 0} (o : Option A) → ((x : A) → o ≡ Some x → ⊥) → o ≡ None
+pub none_unless : {A : Type 0} (o : Option A) → ((x : A) → o ≡ Some x → ⊥) → o ≡ None
 none_unless None h = refl
 none_unless (Some x) h = absurd (h x refl)
 

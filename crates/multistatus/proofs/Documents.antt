@@ -8,6 +8,8 @@ use Rattle.multistatus.specs.Elements.{Content, nothing, blanks, text, element, 
 use Rattle.multistatus.specs.Namespaces.{Tree, first_scope, resolved}
 use Rattle.multistatus.specs.Documents.{HasTree}
 use Rattle.multistatus.proofs.Runs.{some_same}
+use Rattle.multistatus.proofs.Bodies.{body_found}
+use Rattle.multistatus.proofs.AllTokens.{read_of}
 use Rattle.multistatus.proofs.Readings.{tokens_same, bodies_same}
 
 -- what may stand behind all that an element holds: its end, or nothing
@@ -85,8 +87,9 @@ content_same x y same = (parted x y [] [] tt tt (append_none (events_of x) ∙ s
 -- bytes are a document of one tree at most
 pub HasTree-unique : (bytes : List ℕ) (one other : Tree) → HasTree bytes one → HasTree bytes other → one ≡ other
 HasTree-unique bytes one other x y =
-    let body : x.body ≡ y.body = bodies_same bytes x.body y.body x.body_is y.body_is in
-    let tokens : x.tokens ≡ y.tokens = tokens_same y.body x.tokens y.tokens (subst (λ (b : List ℕ). AreTokens b x.tokens) body x.are_tokens) y.are_tokens in
+    let body : x.body ≡ y.body = bodies_same bytes x.body y.body (body_found bytes x.body x.has_body) (body_found bytes y.body y.has_body) in
+    let tokens : x.tokens ≡ y.tokens = tokens_same y.body x.tokens y.tokens (subst (λ (b : List ℕ). AreTokens b x.tokens) body (read_of x.body x.tokens x.has_tokens))
+    (read_of y.body y.tokens y.has_tokens) in
     let content : x.content ≡ y.content = content_same x.content y.content (sym x.content_is ∙ ap (λ (l : List Token). flat_map events_of_token l) tokens ∙ y.content_is) in
     let root : (x.tag, x.inside) ≡ (y.tag, y.inside) = some_same (x.tag, x.inside) (y.tag, y.inside) (sym x.root_is ∙ ap root_of content ∙ y.root_is) in
     some_same one other (sym x.tree_is ∙ ap (λ (p : Tag × Content). resolved first_scope (element p.0 p.1 nothing)) root ∙ y.tree_is)

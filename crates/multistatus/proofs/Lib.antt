@@ -1,14 +1,21 @@
+pub mod AllTokens
+pub mod Befores
+pub mod Bodies
 pub mod Cuts
 pub mod Differing
 pub mod Documents
 pub mod Escapes
 pub mod Fronts
+pub mod Grammar
 pub mod InTags
 pub mod Namings
+pub mod OtherTokens
 pub mod Readings
+pub mod Referring
 pub mod Runs
 pub mod Takings
 pub mod Scoping
+pub mod TagTokens
 pub mod Turns
 pub mod Whole
 mod Propstats

@@ -17,6 +17,9 @@ use Rattle.multistatus.specs.Multistatus.{rows_of_root, HasRows, IsAnswer}
 use Rattle.multistatus.specs.Reader.{State, run, step, run_token, first_state, rows_outside, rows_at_end, RunsTo}
 use Rattle.multistatus.proofs.Runs.{at, run-nil, shaped, bind_some, some_same, chosen}
 use Rattle.multistatus.proofs.Whole.{rows_by, run-document}
+use Rattle.multistatus.proofs.Befores.{nothing_if_none}
+use Rattle.multistatus.proofs.Bodies.{body_found, body_read}
+use Rattle.multistatus.proofs.AllTokens.{read_of, from_read}
 
 abbrev by_root : Tag × Content → Option (List Response)
 by_root root = rows_by root.0 root.1
@@ -25,7 +28,7 @@ by_root root = rows_by root.0 root.1
 pub runs_of : (bytes : List ℕ) (rows : List Response) (h : HasRows bytes rows) → RunsTo h.has_tree.body rows
 runs_of bytes rows h = let t = h.has_tree in (
   t.tokens,
-  t.are_tokens,
+  read_of t.body t.tokens t.has_tokens,
   ap (λ (es : List Event). run first_state es >>= rows_at_end) t.content_is ∙ run-document t.content ∙ ap (λ (o : Option (Tag × Content)). o >>= by_root) t.root_is
       ∙ ap (λ (b : Bool). cond b (resolved first_scope (element t.tag t.inside nothing) >>= rows_of_root) None) t.within
       ∙ ap (λ (o : Option Tree). o >>= rows_of_root) t.tree_is ∙ h.rows_are,
@@ -51,9 +54,9 @@ rows_from bytes body rows utf8 body_is runs =
       has_tree = record {
         is_utf8 = utf8;
         body = body;
-        body_is = body_is;
+        has_body = body_read bytes body body_is;
         tokens = runs.0;
-        are_tokens = runs.1;
+        has_tokens = from_read body runs.0 runs.1;
         content = shape.0;
         content_is = shape.1;
         tag = found.0.0;
@@ -87,7 +90,7 @@ bodies_same bytes one other x y = some_same one other (sym x ∙ y)
 
 pub HasRows-unique : (bytes : List ℕ) (one other : List Response) → HasRows bytes one → HasRows bytes other → one ≡ other
 HasRows-unique bytes one other x y =
-    let body : x.has_tree.body ≡ y.has_tree.body = bodies_same bytes x.has_tree.body y.has_tree.body x.has_tree.body_is y.has_tree.body_is in
+    let body : x.has_tree.body ≡ y.has_tree.body = bodies_same bytes x.has_tree.body y.has_tree.body (body_found bytes x.has_tree.body x.has_tree.has_body) (body_found bytes y.has_tree.body y.has_tree.has_body) in
     runs_same y.has_tree.body one other (subst (λ (b : List ℕ). RunsTo b one) body (runs_of bytes one x)) (runs_of bytes other y)
 
 append_by : (xs ys : List Event) → ((next : State) → run next (xs ++ ys) ≡ (run next xs >>= λ s. run s ys))
@@ -165,23 +168,18 @@ no_step body rest behind state token Bad so_far some found none = λ rows runs.
     let clash : None ≡ Some rows = ap (λ (o : Option State). o >>= rows_at_end) (sym stops) ∙ runs.2 in
     cc
 
--- nothing is left
-all_read : (rest : List ℕ) → length rest ≡ 0 → rest ≡ []
-all_read [] h = refl
-all_read (b ∷ bytes) h = absurd (omega arith)
-
 state_left : (state : State) → run_tokens state [] ≡ Some state
 state_left state = run-nil state
 
 pub reading_last : (body rest : List ℕ) (state : State) (r : Result (List Response) MultiError) → Reading body rest state → length rest ≡ 0
     → Gives (λ (rows : List Response). rows) r (rows_at_end state) → IsAnswer (RunsTo body) r
 reading_last body rest state (Ok rows) so_far none gives =
-    let whole = so_far.onward [] (all_read rest none) in
+    let whole = so_far.onward [] (nothing_if_none rest none) in
     (whole.0, whole.1, ap (λ (o : Option State). o >>= rows_at_end) (whole.2 ∙ state_left state) ∙ gives)
 reading_last body rest state (Err NoMemory) so_far none gives = tt
 reading_last body rest state (Err Bad) so_far none gives = λ rows runs.
     let on = so_far.back runs.0 runs.1 in
-    let ended : on.0 ≡ [] = tokens_same rest on.0 [] on.1 (all_read rest none) in
+    let ended : on.0 ≡ [] = tokens_same rest on.0 [] on.1 (nothing_if_none rest none) in
     let clash : None ≡ Some rows = sym gives ∙ ap (λ (o : Option State). o >>= rows_at_end) (sym (on.2 ∙ ap (run_tokens state) ended ∙ state_left state)) ∙ runs.2 in
     cc
 
@@ -191,11 +189,11 @@ pub answer_from_body : (bytes body : List ℕ) (r : Result (List Response) Multi
 answer_from_body bytes body (Ok rows) utf8 body_is runs = rows_from bytes body rows utf8 body_is runs
 answer_from_body bytes body (Err NoMemory) utf8 body_is none = tt
 answer_from_body bytes body (Err Bad) utf8 body_is none = λ rows h.
-    none rows (subst (λ (b : List ℕ). RunsTo b rows) (bodies_same bytes h.has_tree.body body h.has_tree.body_is body_is) (runs_of bytes rows h))
+    none rows (subst (λ (b : List ℕ). RunsTo b rows) (bodies_same bytes h.has_tree.body body (body_found bytes h.has_tree.body h.has_tree.has_body) body_is) (runs_of bytes rows h))
 
 pub no_body : (bytes : List ℕ) (error : MultiError) → Fails error (without_declaration (without_mark bytes)) → IsAnswer (HasRows bytes) (Err error)
 no_body bytes NoMemory none = tt
-no_body bytes Bad none = λ rows h. let clash : None ≡ Some h.has_tree.body = sym none ∙ h.has_tree.body_is in cc
+no_body bytes Bad none = λ rows h. let clash : None ≡ Some h.has_tree.body = sym none ∙ (body_found bytes h.has_tree.body h.has_tree.has_body) in cc
 
 pub no_text : (bytes : List ℕ) → (IsUtf8 bytes → ⊥) → IsAnswer (HasRows bytes) (Err Bad)
 no_text bytes none = λ rows h. none h.has_tree.is_utf8

@@ -4,7 +4,7 @@ use Rattle.std.specs.Prelude.{◌≡◌, ℕ, true, List, Some, IsUtf8}
 use Rattle.std.specs.List.{flat_map}
 use Rattle.multistatus.specs.declared.tags.Tag.{Tag}
 use Rattle.multistatus.specs.declared.tokens.Token.{Token}
-use Rattle.multistatus.specs.Tokens.{AreTokens, without_mark, without_declaration}
+use Rattle.multistatus.specs.Grammar.{HasBody, HasTokens}
 use Rattle.multistatus.specs.Elements.{Content, events_of, events_of_token, root_of, is_within, element, nothing}
 use Rattle.multistatus.specs.Namespaces.{Tree, first_scope, resolved}
 
@@ -16,9 +16,9 @@ most_nested = 32
 pub record HasTree (bytes : List ℕ) (tree : Tree) : Type 0 where
   pub is_utf8 : IsUtf8 bytes
   pub body : List ℕ
-  pub body_is : without_declaration (without_mark bytes) ≡ Some body
+  pub has_body : HasBody bytes body
   pub tokens : List Token
-  pub are_tokens : AreTokens body tokens
+  pub has_tokens : HasTokens body tokens
   pub content : Content
   pub content_is : flat_map events_of_token tokens ≡ events_of content
   pub tag : Tag

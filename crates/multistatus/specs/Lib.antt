@@ -4,6 +4,7 @@ pub mod Marks
 pub mod Texts
 pub mod Tags
 pub mod Tokens
+pub mod Grammar
 pub mod Elements
 pub mod Namespaces
 pub mod Kept

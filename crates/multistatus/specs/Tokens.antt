@@ -1,5 +1,6 @@
--- The tokens of a document: tags, text, CDATA sections, and comments and processing instructions, which are passed
--- over (XML 1.0, fifth edition, sections 2.4 to 2.8 and 3.1). A document type is no token.
+-- How the token at the front of bytes is found: tags, text, CDATA sections, and comments and processing instructions, which
+-- are passed over (XML 1.0, fifth edition, sections 2.4 to 2.8 and 3.1). A document type is no token. Grammar.antt says
+-- which bytes are which token, and a law says that it is the token found here.
 use Rattle.std.specs.Prelude.{◌≡◌, ◌<◌, ℕ, Bool, ◌&&◌, not, List, [], ◌∷◌, length, Option, Some, None, codes, if◌then◌else◌, ◌==◌}
 use Rattle.std.specs.List.{list_all}
 use Rattle.std.specs.Str.{bytes_eq, str_to_ascii_lowercase}
@@ -85,7 +86,7 @@ token_by bytes (Some rest) = markup_at rest
 unfoldable pub token_at : List ℕ → Found
 token_at bytes = token_by bytes (stripped (codes "<") bytes)
 
--- the bytes are these tokens, one behind another, and each has at least a byte
+-- these tokens are found, one behind another, and each has at least a byte
 abbrev pub AreTokens : List ℕ → List Token → Type 0
 AreTokens bytes [] = bytes ≡ []
 AreTokens bytes (token ∷ tokens) = (rest : List ℕ) × (0 < length bytes) × (token_at bytes ≡ Some (token, rest)) × AreTokens rest tokens

@@ -20,7 +20,7 @@ mod text;
 mod tokens;
 
 pub use error::MultiError;
-pub use laws::{rows_are_unique, trees_are_unique};
+pub use laws::{rows_are_unique, tokens_are_the_grammar, tokens_are_unique, trees_are_unique};
 pub use lists::LentList;
 pub use multistatus::read_multistatus;
 pub use namespace::Namespace;
